@@ -12,7 +12,7 @@ import re
 import sys
 
 CRATES = pathlib.Path(__file__).resolve().parents[2] / "crates"
-PARTS = """privilege_cli run_endings word_line command_words host_ports script_replies script_reading folder_runs local_runs access_runs
+PARTS = """privilege_cli run_endings word_line command_words host_ports script_replies folder_runs local_runs access_runs
 sample_runs serve_runs client_runs admin_runs agent_runs watch_runs""".split()
 USE = re.compile(r"^\s*(?:ghost )?use Rattle\.(\w+)\.specs\.([\w.]+?)(?:\.\{([^}]*)\})?(?: as \w+)?;?$")
 HEAD = re.compile(r"^\s*(?:(?:abbrev|unfoldable)(?: pub)?|(?:pub )?(?:record|data)) ([\w']+)")

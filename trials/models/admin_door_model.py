@@ -3,8 +3,8 @@
 the frames sent, the states published, who is hung up, and the folder. It shares nothing with the product. The commands are
 those of `device_model.py`, the files those of `set_model.py`, the faults of frames those of `frame_model.py`.
 
-`admin_door_model.py` writes the cases of `cases_admin` with the answers that are due; `admin_door_model.py COUNT [SEED]`
-random ones."""
+`admin_door_model.py` writes the cases of `cases_doors` at this door with the answers that are due; `admin_door_model.py
+COUNT [SEED]` random ones."""
 
 import copy
 import random
@@ -190,8 +190,9 @@ def renew(disk, held, gone):
     disk.sync()
 
 
-def settle(disk):
-    """The calls of a mount. The set that is held, or None."""
+def look(disk):
+    """The first calls of a mount, which change nothing. The names of the files, the list that counts, and the set that is held; the
+    last two may be None."""
     disk.sync()
     names = disk.names()
     guarded = b"guard" in names
@@ -205,6 +206,12 @@ def settle(disk):
             held[name] = disk.read(name + mark)
             if held[name] is None:
                 raise Damaged(name, 0)
+    return names, listing, held
+
+
+def settle(disk, names, listing, held):
+    """The other calls of a mount, behind a set that stands for a policy state."""
+    guarded = b"guard" in names
     is_left = lambda name: is_own(name) and name not in (b"guard", b"list", *(held or {}))
     if guarded:
         renew(disk, held, [name for name in names if is_left(name) and not name.endswith(b"~")])
@@ -217,7 +224,6 @@ def settle(disk):
         disk.sync()
     if listing is not None and not guarded and not listing.startswith(VERSION):
         save(disk, held, [])
-    return held
 
 
 class Keeper:
@@ -230,10 +236,11 @@ class Keeper:
 
     def mount(self):
         self.decided = False
-        held = settle(self.disk)
+        names, listing, held = look(self.disk)
         desk = Device() if held is None else Sets(held).read()
         if self.desk and desk.commit < self.desk.commit:
             raise Damaged(b"stamp", 0)
+        settle(self.disk, names, listing, held)
         self.desk, self.held, self.decided = desk, held, True
 
     def commit(self, desk):

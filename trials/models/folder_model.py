@@ -1,5 +1,5 @@
 """What a folder stands for, written again in plain Python: the set of files that it recovers to, the policy state of that
-set, and the files that a mount leaves."""
+set, and the files that a mount leaves: those that were there, where the folder stands for no policy state."""
 
 import re
 
@@ -74,10 +74,6 @@ def answered(files, answers):
         return b"", 6, files
     try:
         held = recovered(files)
-    except Damaged as damaged:
-        return b"damaged %s %d\n" % damaged.args, 8, files
-    files = at_rest(files, held)
-    try:
         device = device_of(held)
     except Damaged as damaged:
         return b"damaged %s %d\n" % damaged.args, 8, files

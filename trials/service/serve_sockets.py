@@ -24,7 +24,7 @@ import time
 
 from trial_crate import built
 
-USES = ["anyhow", "folder_disk", "socket_net", "host_ports", "link_ports", "door_workers", "serve_runs"]
+USES = ["anyhow", "folder_disk", "socket_net", "host_ports", "link_ports", "desk_server", "serve_runs"]
 SECONDS = 20
 ALLOW, DENY, AGENT = 0xFFFF, 0, 10
 wrong = []

@@ -1,5 +1,6 @@
 -- A run of `smack-access`: what its parts read and wrote, put together.
-use Rattle.std.proofs.Common.{◌≡◌, ◌++◌, [], ℕ, Bool, true, false, nat_lt, List, length, take, Option, Err, inl, inr, refl, sym, ap, ◌∙◌, subst, arith, length-append}
+use Rattle.std.proofs.Common.{◌≡◌, ◌++◌, [], ℕ, Bool, true, false, nat_lt, List, length, take, Option, Err, inl, inr}
+use Rattle.std.proofs.Common.{refl, sym, ap, ◌∙◌, subst, arith, length-append}
 use Rattle.std.proofs.lemmas.Bool.{ltb-true, ltb-false}
 use Rattle.desk_ports.specs.Content.{ReadToEnd, Appended}
 use Rattle.desk_ports.proofs.Appends.{Appended-none}
@@ -9,11 +10,13 @@ use Rattle.run_endings.specs.Ending.{source_faults_after}
 use Rattle.run_endings.specs.Outside.{SourceSeen}
 use Rattle.run_endings.specs.Saying.{Said, silence, WritesAnswers}
 use Rattle.access_runs.specs.AccessRun.{IsDecided, IsReadThrough, RunsAccess}
-use Rattle.script_replies.specs.Reply.{decided_text}
-use Rattle.access_runs.specs.parts.Access.{IsRead, IsWrongAt, AreRead, IsWrongInput, ReadsRules, WritesAnswer, counts_sink}
+use Rattle.line_answers.specs.Answers.{decided_text}
+use Rattle.access_runs.specs.parts.Access.{IsRead, IsWrongAt, AreRead, IsWrongInput, ReadsRules, WritesAnswer}
+use Rattle.access_runs.specs.parts.Access.{counts_sink}
 use Rattle.access_runs.specs.Limits.{most_rules_bytes}
 use Rattle.run_endings.specs.declared.endings.Ending.{Ending}
-use Rattle.run_endings.specs.declared.endings.Ending.TheVariants.{Done, Memory, Words, Line, Source, Sink, Disk, Net, Damaged, Reply, TooLong}
+use Rattle.run_endings.specs.declared.endings.Ending.TheVariants.{Done, Memory, Words, Line, Source, Sink, Disk, Net}
+use Rattle.run_endings.specs.declared.endings.Ending.TheVariants.{Damaged, Reply, TooLong}
 use Rattle.run_endings.proofs.Hads.{Took-Had}
 use Rattle.run_endings.proofs.Trying.{IsCut-take}
 
@@ -30,9 +33,11 @@ module _ (left left_after : Option (List ℕ)) (text : List ℕ) (read : IsRead 
         wrong = wrong had.0 (λ within. had.2 (read.end within));
       }
     where
-      either : (past : Bool) → nat_lt most_rules_bytes (length text) ≡ past → (rest : List ℕ) → (ReadToEnd left left_after → rest ≡ [])
+      either : (past : Bool) → nat_lt most_rules_bytes (length text) ≡ past → (rest : List ℕ)
+          → (ReadToEnd left left_after → rest ≡ [])
           → IsReadThrough (text ++ rest) rest
-      either true is rest none = inr (omega (arith, ltb-true most_rules_bytes (length text) is, length-append text rest))
+      either true is rest none = inr
+          (omega (arith, ltb-true most_rules_bytes (length text) is, length-append text rest))
       either false is rest none = inl (none (read.end (ltb-false most_rules_bytes (length text) is)))
 
 module _ (source source_after : SourceSeen) (taken taken_after : Option (List ℕ)) (faults faults_after : ℕ)
@@ -40,7 +45,8 @@ module _ (source source_after : SourceSeen) (taken taken_after : Option (List �
   abbrev Run : Ending → Type 0
   Run ending =
       (said : Said) × RunsAccess subject object asked said ending source source_after
-      × WritesAnswers ending said (record { taken = taken; faults = faults }) (record { taken = taken_after; faults = faults_after })
+      × WritesAnswers ending said (record { taken = taken; faults = faults })
+      (record { taken = taken_after; faults = faults_after })
 
   -- nothing was written
   silent : taken_after ≡ taken → Appended taken [] taken_after

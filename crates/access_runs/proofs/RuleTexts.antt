@@ -1,5 +1,7 @@
 -- A text of rules, taken apart behind its whole lines.
-use Rattle.std.proofs.Common.{◌≡◌, ◌≤◌, ◌<◌, ◌+◌, ◌-◌, ◌∷◌, ◌++◌, [], ℕ, Bool, true, false, cond, nat_lt, List, length, map, take, Option, Some, None, Result, Ok, Err, IsOkAnd, IfOk, IfErr, MatchResult, inl, inr, refl, sym, ap, ◌∙◌, subst, append_assoc, append-nil, arith, length-append}
+use Rattle.std.proofs.Common.{◌≡◌, ◌≤◌, ◌<◌, ◌+◌, ◌-◌, ◌∷◌, ◌++◌, [], ℕ, Bool, true, false, cond, nat_lt, List, length}
+use Rattle.std.proofs.Common.{map, take, Option, Some, None, Result, Ok, Err, IsOkAnd, IfOk, IfErr, MatchResult, inl}
+use Rattle.std.proofs.Common.{inr, refl, sym, ap, ◌∙◌, subst, append_assoc, append-nil, arith, length-append}
 use Rattle.std.proofs.lemmas.Bool.{lt-ltb, le-ltb}
 use Rattle.std.proofs.lemmas.List.{length-take-le}
 use Rattle.std.specs.List.{onto_first}
@@ -35,7 +37,8 @@ bytes_in-chosen false byte pieces = bytes_in-first byte pieces
 
 bytes_in-pieces : (bytes : List ℕ) → bytes_in (pieces_of bytes) ≡ length bytes
 bytes_in-pieces [] = refl
-bytes_in-pieces (byte ∷ bytes) = omega (arith, bytes_in-chosen (is_newline byte) byte (pieces_of bytes), bytes_in-pieces bytes)
+bytes_in-pieces (byte ∷ bytes) = omega
+    (arith, bytes_in-chosen (is_newline byte) byte (pieces_of bytes), bytes_in-pieces bytes)
 
 some-chosen : (b : Bool) (byte : ℕ) (pieces : List (List ℕ)) → 0 < length pieces
     → 0 < length (cond b ((byte ∷ []) ∷ pieces) (onto_first byte pieces))
@@ -54,14 +57,16 @@ chosen-append true byte first rest some = refl
 chosen-append false byte [] rest some = absurd (omega (arith, some))
 chosen-append false byte (piece ∷ first) rest some = refl
 
-pieces_of-whole : (front more : List ℕ) → pieces_of (front ++ 10 ∷ more) ≡ pieces_of (front ++ 10 ∷ []) ++ pieces_of more
+pieces_of-whole : (front more : List ℕ)
+    → pieces_of (front ++ 10 ∷ more) ≡ pieces_of (front ++ 10 ∷ []) ++ pieces_of more
 pieces_of-whole [] more = refl
 pieces_of-whole (byte ∷ front) more =
     ap (λ pieces. cond (is_newline byte) ((byte ∷ []) ∷ pieces) (onto_first byte pieces)) (pieces_of-whole front more)
     ∙ chosen-append (is_newline byte) byte (pieces_of (front ++ 10 ∷ [])) (pieces_of more) (some-pieces front)
 
 -- the pieces of what begins with whole lines
-pieces_of-lines : (lines more : List ℕ) → AreWholeLines lines → pieces_of (lines ++ more) ≡ pieces_of lines ++ pieces_of more
+pieces_of-lines : (lines more : List ℕ) → AreWholeLines lines
+    → pieces_of (lines ++ more) ≡ pieces_of lines ++ pieces_of more
 pieces_of-lines lines more (inl none) =
     subst (λ lines. pieces_of (lines ++ more) ≡ pieces_of lines ++ pieces_of more) (sym none) refl
 pieces_of-lines lines more (inr some) =
@@ -76,7 +81,8 @@ record FirstPiece (part bytes : List ℕ) : Type 0 where
   longer : length part < length piece
 
 first-chosen : (b : Bool) (byte : ℕ) (rest pieces : List (List ℕ)) → rest ≡ pieces
-    → (piece : List ℕ) × (others : List (List ℕ)) × (cond b ((byte ∷ []) ∷ rest) (onto_first byte rest) ≡ piece ∷ others)
+    → (piece : List ℕ) × (others : List (List ℕ))
+    × (cond b ((byte ∷ []) ∷ rest) (onto_first byte rest) ≡ piece ∷ others)
     × (0 < length piece)
 first-chosen true byte rest pieces is = (byte ∷ [], rest, refl, omega arith)
 first-chosen false byte rest [] is = (byte ∷ [], [], ap (onto_first byte) is, omega arith)
@@ -131,7 +137,8 @@ past-test room size past = lt-ltb room size past
 -- the rules of pieces for which there is room, and of those behind them
 rules_within-front : (room number : ℕ) (first rest : List (List ℕ)) → bytes_in first ≤ room
     → rules_within room number (first ++ rest)
-    ≡ then_rules (rules_from number (map line_of first)) (rules_within (room - bytes_in first) (number + length first) rest)
+    ≡ then_rules (rules_from number (map line_of first))
+    (rules_within (room - bytes_in first) (number + length first) rest)
 rules_within-front room number [] rest within =
     let rooms : room ≡ room - 0 = omega arith in
     let numbers : number ≡ number + 0 = omega arith in
@@ -157,14 +164,16 @@ then_rules-none (Ok rules) = ap Ok (append-nil rules)
 then_rules-none (Err number) = refl
 
 -- a text within the room
-rules_within-all : (room : ℕ) (text : List ℕ) → length text ≤ room → rules_within room 1 (pieces_of text) ≡ rules_of text
+rules_within-all : (room : ℕ) (text : List ℕ) → length text ≤ room
+    → rules_within room 1 (pieces_of text) ≡ rules_of text
 rules_within-all room text within =
     ap (rules_within room 1) (sym (append-nil (pieces_of text)))
     ∙ (rules_within-front room 1 (pieces_of text) [] (omega (arith, bytes_in-pieces text, within))
     ∙ then_rules-none (rules_of text))
 
 -- no room for the byte that follows a part of a line
-rules_within-past : (room number : ℕ) (part : List ℕ) (byte : ℕ) (after : List ℕ) → HasNoNewline part → length part ≡ room
+rules_within-past : (room number : ℕ) (part : List ℕ) (byte : ℕ) (after : List ℕ) → HasNoNewline part
+    → length part ≡ room
     → rules_within room number (pieces_of (part ++ byte ∷ after)) ≡ Err number
 rules_within-past room number part byte after plain full =
     let first = first_piece part byte after plain in
@@ -174,7 +183,8 @@ rules_within-past room number part byte after plain full =
     (past-test room (length first.piece) (omega (arith, full, first.longer)))
 
 -- the rules of whole lines for which there is room, with a part of a line behind them that fills it
-rules_within-over : (room count : ℕ) (lines part : List ℕ) (byte : ℕ) (after : List ℕ) → AreWholeLines lines → HasNoNewline part
+rules_within-over : (room count : ℕ) (lines part : List ℕ) (byte : ℕ) (after : List ℕ) → AreWholeLines lines
+    → HasNoNewline part
     → length (pieces_of lines) ≡ count → length lines + length part ≡ room
     → rules_within room 1 (pieces_of (lines ++ (part ++ byte ∷ after))) ≡ then_rules (rules_of lines) (Err (count + 1))
 rules_within-over room count lines part byte after whole plain counted full =
@@ -193,14 +203,16 @@ over : (room count : ℕ) (text lines more : List ℕ) → room < length text �
 over room count text lines more past are =
     let cut = IsCut-take room text past in
     let size = length-take-le room text (omega (arith, past)) in
-    let sizes : length lines + length are.rest ≡ room = omega (arith, size, ap length are.parts, length-append lines are.rest) in
+    let sizes : length lines + length are.rest
+    ≡ room = omega (arith, size, ap length are.parts, length-append lines are.rest) in
     let parts : text ++ more ≡ lines ++ (are.rest ++ cut.0 ∷ (cut.1 ++ more)) =
     ap (λ text. text ++ more) (cut.2 ∙ ap (λ front. front ++ cut.0 ∷ cut.1) are.parts)
     ∙ (append_assoc (lines ++ are.rest) (cut.0 ∷ cut.1) more ∙ append_assoc lines are.rest (cut.0 ∷ (cut.1 ++ more))) in
     ap (λ text. rules_within room 1 (pieces_of text)) parts
     ∙ rules_within-over room count lines are.rest cut.0 (cut.1 ++ more) are.whole are.unfinished are.counted sizes
 
-right-then : (P : List Rule → Type 0) (rules later : Result (List Rule) ℕ) (number : ℕ) → IsOkAnd rules P → later ≡ Err number
+right-then : (P : List Rule → Type 0) (rules later : Result (List Rule) ℕ) (number : ℕ) → IsOkAnd rules P
+    → later ≡ Err number
     → then_rules rules later ≡ Err number
 right-then P (Ok rules) later number right is = ap (with_front rules) is
 right-then P (Err line) later number right is = absurd right
@@ -218,15 +230,18 @@ pub IsWrongAt-before : (count line : ℕ) (text lines : List ℕ) → most_rules
     → AreLinesOf (take most_rules_bytes text) lines count
     → rules_of lines ≡ Err line → IsWrongAt text line
 IsWrongAt-before count line text lines past are wrong =
-    λ more none. over most_rules_bytes count text lines more past are ∙ ap (λ rules. then_rules rules (Err (count + 1))) wrong
+    λ more none. over most_rules_bytes count text lines more past are
+    ∙ ap (λ rules. then_rules rules (Err (count + 1))) wrong
 
 -- a line of a text within the limit is wrong
-IsWrongAt-within : (line : ℕ) (text : List ℕ) → length text ≤ most_rules_bytes → rules_of text ≡ Err line → IsWrongAt text line
+IsWrongAt-within : (line : ℕ) (text : List ℕ) → length text ≤ most_rules_bytes → rules_of text ≡ Err line
+    → IsWrongAt text line
 IsWrongAt-within line text within wrong =
     λ more none. ap (λ more. rules_read (text ++ more)) (none within)
     ∙ (ap rules_read (append-nil text) ∙ (rules_within-all most_rules_bytes text within ∙ wrong))
 
-granted_by : (text subject object : List ℕ) (granted : Modes) (rules : Result (List Rule) ℕ) → length text ≤ most_rules_bytes
+granted_by : (text subject object : List ℕ) (granted : Modes) (rules : Result (List Rule) ℕ)
+    → length text ≤ most_rules_bytes
     → rules_read text ≡ rules → IsOkAnd rules (λ rules. granted ≡ effective rules subject object)
     → AreGranted text subject object granted
 granted_by text subject object granted (Ok rules) within is grants =
@@ -251,7 +266,8 @@ pub record LinesSoFar (text rest : List ℕ) (count : ℕ) : Type 0 where
   pub whole : AreWholeLines lines
   pub counted : length (pieces_of lines) ≡ count
 
-pub LinesSoFar-more : (text rest line after : List ℕ) (count : ℕ) → LinesSoFar text rest count → rest ≡ line ++ 10 ∷ after
+pub LinesSoFar-more : (text rest line after : List ℕ) (count : ℕ) → LinesSoFar text rest count
+    → rest ≡ line ++ 10 ∷ after
     → HasNoNewline line → LinesSoFar text after (count + 1)
 LinesSoFar-more text rest line after count so_far cut plain =
     let lines = so_far.lines in

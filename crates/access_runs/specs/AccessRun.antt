@@ -7,7 +7,7 @@ use Rattle.smack_rules.specs.Rule.{line_rule}
 use Rattle.smack_rules.specs.RuleText.{with_line}
 use Rattle.smack_rules.specs.Effective.{effective}
 use Rattle.smack_rules.specs.Decision.{decision}
-use Rattle.script_replies.specs.Reply.{decided_text}
+use Rattle.line_answers.specs.Answers.{decided_text}
 use Rattle.run_endings.specs.Outside.{SourceSeen, HadInput}
 use Rattle.run_endings.specs.Saying.{Said}
 use Rattle.run_endings.specs.declared.endings.Ending.{Ending}
@@ -46,7 +46,8 @@ AccessAnswers subject object asked Source input rest answer = answer ≡ []
 AccessAnswers subject object asked ending input rest answer = ⊥
 
 -- The run of a request.
-pub record RunsAccess (subject object : List ℕ) (asked : Modes) (said : Said) (ending : Ending) (before after : SourceSeen)
+pub record RunsAccess (subject object : List ℕ) (asked : Modes) (said : Said) (ending : Ending)
+    (before after : SourceSeen)
     : Type 0 where
   pub input : List ℕ
   pub rest : List ℕ

@@ -2,6 +2,7 @@
 #![tactic(auto)]
 
 mod access_runs;
+mod line_notes;
 mod pair_notes;
 mod zeros;
 

@@ -26,8 +26,8 @@ struct Seen {
     last: Option<u32>,
 }
 
-/// Tells what is doubtful about these rules, which grant the pair these modes. Where the rules decided, also what may be
-/// asked for.
+/// Tells what is doubtful about these rules, which grant the pair these modes. Where the rules decided, also what may
+/// be asked for.
 pub fn note_rules<K: Sink>(
     alloc: Global,
     text: &[u8],

@@ -1,25 +1,23 @@
 -- Bytes that were received piece by piece, and what the machine makes of them.
-use Rattle.std.proofs.Common.{◌≡◌, ◌<◌, ◌≤◌, ◌∙◌, ℕ, Bool, true, false, List, [], ◌++◌, length, Option, Some, Result, refl, sym, ap, subst, arith, append-nil, length-append}
-use Rattle.std.specs.Prelude.{◌+◌, ◌-◌, nat_lt, if◌then◌else◌}
+use Rattle.std.proofs.Common.{◌≡◌, ◌<◌, ◌≤◌, ◌∙◌, ℕ, Bool, List, [], ◌++◌, length, Option, Some, Result, sym, ap, subst, arith, append-nil, length-append}
 use Rattle.link_ports.specs.Told.{IfTold}
 use Rattle.link_ports.specs.Traffic.{Traffic, with_received}
-use Rattle.wire_messages.specs.Frame.{length_of}
-use Rattle.wire_messages.specs.Stream.{IsOpen, wanted}
-use Rattle.wire_messages.proofs.Settling.{open_bound}
-use Rattle.wire_messages.specs.declared.messages.Framed.{Framed}
-use Rattle.wire_messages.specs.declared.messages.Message.{Message}
-use Rattle.wire_messages.specs.declared.operations.Heard.TheVariants.{Replies}
+use Rattle.wire_reading.specs.Stream.{IsOpen, wanted}
+use Rattle.wire_reading.proofs.Settling.{open_bound}
+use Rattle.wire_fields.specs.declared.messages.Framed.{Framed}
+use Rattle.wire_fields.specs.declared.messages.Message.{Message}
+use Rattle.wire_fields.specs.declared.operations.Heard.TheVariants.{Replies}
 use Rattle.client_connection.specs.Reading.{IsRead, Receives}
 use Rattle.client_connection.specs.Coming.{Comes}
 use Rattle.client_connection.specs.declared.faults.Broken.{Broken}
 use Rattle.client_connection.proofs.Exchanging.{nothing_open}
 use Rattle.client_connection.proofs.Receiving.{comes_too, read_whole, received_more, received_nothing}
-use Rattle.client_connection.proofs.Sizes.{piece_within}
+use Rattle.client_connection.proofs.Sizes.{piece_within, open_wants}
 use Rattle.client_core.specs.Listening.{Listening, unheard, is_fit}
 use Rattle.client_core.specs.Hearing.{fault_by}
 use Rattle.client_core.specs.Admin.{Admin, cut}
 use Rattle.client_core.specs.Admin as does
-use Rattle.client_core.proofs.Staging.{fit, admin_by_piece, admin_by_reply}
+use Rattle.client_core.proofs.Staging.{fit, admin_by_piece, admin_by_reply, wait_over, wait_reply}
 use Rattle.client_core.specs.declared.stages.Exchange.{Exchange}
 use Rattle.client_core.specs.declared.stages.AdminStage.{AdminStage}
 use Rattle.client_core.specs.declared.stages.AdminStage.TheVariants as stage
@@ -119,15 +117,6 @@ begun start old exchange was = record {
   received = received_nothing start;
 }
 
-never : {X : Type 0} (answer : Step) → (answer ≡ step.Wait → ⊥) → answer ≡ step.Wait → X
-never answer not is = absurd (not is)
-
-wait_over : {X : Type 0} (f : Fault) → step.Wait ≡ step.Over f → X
-wait_over f is = cc
-
-wait_reply : {X : Type 0} (m : Message) → step.Wait ≡ step.Reply m → X
-wait_reply m is = cc
-
 wait_row : {X : Type 0} (m : Message) → step.Wait ≡ step.Row m → X
 wait_row m is = cc
 
@@ -182,7 +171,7 @@ module _ (start mid end : Option Traffic) (trouble : Type 0) (old machine new : 
 
   finished : (answer : Step) → (answer ≡ step.Wait → ⊥) → Takes mid end trouble under.exchange ear answer machine new
       → Hears (λ result. Receives Replies result start end) trouble under.exchange answer old new
-  finished answer not (Takes.went_on more some received unfinished a now) = never answer not a
+  finished answer not (Takes.went_on more some received unfinished a now) = absurd (not a)
   finished answer not (Takes.ended more received comes) =
       heard_on under.exchange answer old new (stage.Waiting under.exchange ear)
       (λ result. IsRead Replies result (under.bytes ++ more)) (λ result. Receives Replies result start end) trouble
@@ -206,18 +195,10 @@ module _ (start mid end : Option Traffic) (trouble : Type 0) (old machine new : 
       omega (arith, most, is)
 
 -- some bytes are wanted as long as the frame is not whole
-wanted_if : (short : Bool) (bytes : List ℕ) → nat_lt (length bytes) 4 ≡ short → (4 ≤ length bytes → length bytes < length_of bytes + 4)
-    → 0 < (if short then 4 - length bytes else length_of bytes + 4 - length bytes)
-wanted_if true bytes is less = let few : length bytes < 4 = grind (arith, is) in omega (arith, few)
-wanted_if false bytes is less =
-    let long : 4 ≤ length bytes = grind (arith, is) in
-    let more = less long in
-    omega (arith, more)
-
 pub some_wanted : (start now : Option Traffic) (old machine : Admin) → IsUnder start now old machine → 0 < does.wanted_at machine.stage
 some_wanted start now old machine under =
     subst (λ (c : Admin). 0 < does.wanted_at c.stage) (sym under.is)
-    (wanted_if (nat_lt (length under.bytes) 4) under.bytes refl (open_bound Replies under.bytes under.unfinished).less)
+    (open_wants Replies under.bytes under.unfinished)
 
 -- ---- what a step can be
 

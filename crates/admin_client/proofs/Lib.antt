@@ -1,3 +1,4 @@
 mod Hearing
+mod Rows
 mod Taking
 mod Sending

@@ -8,12 +8,12 @@ use Rattle.link_ports.specs.NetCounts.{count_after_give_back}
 use Rattle.client_connection.specs.Reading.{IsTrouble}
 use Rattle.client_connection.proofs.Troubles.{trouble-counts}
 use Rattle.link_ports.specs.Traffic.{Traffic, with_received, with_sent}
-use Rattle.wire_messages.specs.Stream.{IsOpen, first_of}
-use Rattle.wire_messages.specs.Frame.{spelling, with_sequence, IsTooLong}
-use Rattle.wire_messages.specs.declared.messages.Framed.{Framed}
-use Rattle.wire_messages.specs.declared.messages.Message.{Message}
-use Rattle.wire_messages.specs.declared.refusals.EncodeRefusal.TheVariants.{TooLong as TooLongFor}
-use Rattle.wire_messages.specs.declared.operations.Heard.TheVariants.{Replies}
+use Rattle.wire_reading.specs.Stream.{IsOpen, first_of}
+use Rattle.wire_reading.specs.Frame.{spelling, with_sequence, IsTooLong}
+use Rattle.wire_fields.specs.declared.messages.Framed.{Framed}
+use Rattle.wire_fields.specs.declared.messages.Message.{Message}
+use Rattle.wire_fields.specs.declared.refusals.EncodeRefusal.TheVariants.{TooLong as TooLongFor}
+use Rattle.wire_fields.specs.declared.operations.Heard.TheVariants.{Replies}
 use Rattle.client_core.specs.AdminReplies.{wanted_of}
 use Rattle.client_core.specs.Admin.{Admin, cut, exchange_of}
 use Rattle.client_core.specs.Admin as does

@@ -2,11 +2,11 @@
 use Rattle.std.specs.Prelude.{◌≡◌, ◌≤◌, ℕ, List, [], ◌∷◌, ◌++◌, length, map, Option, Some}
 use Rattle.link_ports.specs.Told.{IfTold}
 use Rattle.link_ports.specs.Traffic.{Traffic, with_received}
-use Rattle.wire_messages.specs.Stream.{Hears, IsOpen}
-use Rattle.wire_messages.specs.declared.messages.Framed.{Framed}
-use Rattle.wire_messages.specs.declared.messages.Message.{Message}
-use Rattle.wire_messages.specs.declared.operations.Heard.TheVariants.{Replies}
-use Rattle.wire_messages.specs.declared.refusals.WireRefusal.{WireRefusal}
+use Rattle.wire_reading.specs.Stream.{Hears, IsOpen}
+use Rattle.wire_fields.specs.declared.messages.Framed.{Framed}
+use Rattle.wire_fields.specs.declared.messages.Message.{Message}
+use Rattle.wire_fields.specs.declared.operations.Heard.TheVariants.{Replies}
+use Rattle.wire_fields.specs.declared.refusals.WireRefusal.{WireRefusal}
 use Rattle.client_connection.specs.Reading.{size_of, IsWrong}
 use Rattle.client_connection.specs.declared.faults.ReplyFault.{ReplyFault}
 use Rattle.client_connection.specs.declared.faults.ReplyFault.TheVariants.{Frame, Sequence, Operation}

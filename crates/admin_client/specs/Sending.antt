@@ -8,10 +8,10 @@ use Rattle.desk_ports.specs.declared.port_faults.PortFault.TheVariants as fault
 use Rattle.link_ports.specs.Told.{IfTold}
 use Rattle.link_ports.specs.Traffic.{Traffic, with_received, with_sent}
 use Rattle.link_ports.specs.LinkMarks.{LinkMarks}
-use Rattle.wire_messages.specs.Limits.{most_length}
-use Rattle.wire_messages.specs.Frame.{body, spelling, with_sequence, IsTooLong}
-use Rattle.wire_messages.specs.declared.messages.Message.{Message}
-use Rattle.wire_messages.specs.declared.refusals.EncodeRefusal.TheVariants.{TooLong as TooLongFor}
+use Rattle.wire_fields.specs.Limits.{most_length}
+use Rattle.wire_reading.specs.Frame.{body, spelling, with_sequence, IsTooLong}
+use Rattle.wire_fields.specs.declared.messages.Message.{Message}
+use Rattle.wire_fields.specs.declared.refusals.EncodeRefusal.TheVariants.{TooLong as TooLongFor}
 use Rattle.client_connection.specs.Giving.{GivesBack, GivesBackAny}
 use Rattle.client_connection.specs.Asking.{IsBase}
 use Rattle.client_core.specs.AdminReplies.{wanted_of}

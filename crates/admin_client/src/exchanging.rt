@@ -1,7 +1,7 @@
 // A message is sent, over the link that is there or over one that is dialled.
 ghost use Rattle.std.specs.Prelude.{◌≡◌, ℕ, Some, None};
 ghost use Rattle.std.specs.Option.{ForSome};
-ghost use Rattle.wire_messages.specs.declared.messages.Message as message_type;
+ghost use Rattle.wire_fields.specs.declared.messages.Message as message_type;
 ghost use Rattle.admin_client.specs.Sending.{Sends, listed};
 ghost use Rattle.admin_client.specs.parts.States.{IsAlone, IsAtRest, IsLinked, IsDialling, IsDue, seen};
 ghost use Rattle.admin_client.specs.parts.Talking.{TalksOver};

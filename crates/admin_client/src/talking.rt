@@ -1,8 +1,8 @@
 // The frame of a message goes out on a link, and the machine hears what comes back.
 ghost use Rattle.std.specs.Prelude.{◌≡◌, ◌<◌, ◌≤◌, ◌∷◌, ◌++◌, [], ℕ, length, OnOk};
-ghost use Rattle.wire_messages.specs.Stream.{IsOpen};
-ghost use Rattle.wire_messages.specs.declared.messages.Message as message_type;
-ghost use Rattle.wire_messages.specs.declared.operations.Heard.TheVariants.{Replies};
+ghost use Rattle.wire_reading.specs.Stream.{IsOpen};
+ghost use Rattle.wire_fields.specs.declared.messages.Message as message_type;
+ghost use Rattle.wire_fields.specs.declared.operations.Heard.TheVariants.{Replies};
 ghost use Rattle.client_connection.specs.Reading.{Receives, IsTrouble};
 ghost use Rattle.client_core.specs.Admin.{wanted_at};
 ghost use Rattle.client_core.specs.Listening.{Listening, unheard};

@@ -8,8 +8,8 @@ use Rattle.desk_state.specs.declared.commands.Command.{Command}
 use Rattle.live_desk.specs.History.{last_commit}
 use Rattle.server_hall.specs.Tally.{Tally}
 use Rattle.wire_messages.specs.Commands.{command_of}
-use Rattle.wire_messages.specs.declared.messages.Message.{Message}
-use Rattle.wire_messages.specs.declared.messages.Message.TheVariants.{Done, Listing, AdminCheck, Stop, ReadState, ReadService}
+use Rattle.wire_fields.specs.declared.messages.Message.{Message}
+use Rattle.wire_fields.specs.declared.messages.Message.TheVariants.{Done, Listing, AdminCheck, Stop, ReadState, ReadService}
 use Rattle.door_frames.specs.declared.endings.Ended.{Ended}
 use Rattle.admin_door.specs.Side.{AdminSide, with_kept, with_shown, with_fault, with_stop}
 use Rattle.admin_door.specs.Settling.{IsFound, Settles, IsHungFor, Unsettles}

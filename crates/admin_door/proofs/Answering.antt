@@ -8,8 +8,8 @@ use Rattle.desk_state.specs.declared.commands.Command.{Command}
 use Rattle.desk_state.specs.declared.refusals.Refusal.{Refusal}
 use Rattle.desk_state.specs.declared.refusals.Refusal.TheVariants as rule
 use Rattle.wire_messages.specs.Commands.{command_of, IsByRule}
-use Rattle.wire_messages.specs.declared.messages.Message.{Message}
-use Rattle.wire_messages.specs.declared.messages.Message.TheVariants as message
+use Rattle.wire_fields.specs.declared.messages.Message.{Message}
+use Rattle.wire_fields.specs.declared.messages.Message.TheVariants as message
 use Rattle.admin_door.specs.Side.{AdminSide, with_kept, with_shown}
 use Rattle.admin_door.specs.Settling.{IsFound, Settles, Unsettles, with_last_shown}
 use Rattle.admin_door.specs.Answering.{Commits, LacksMemory, Obeys, Answers, AnswersBy, RefusesBy}

@@ -11,8 +11,8 @@ use Rattle.desk_keeper.specs.Kept.{Standing, kept, standing}
 use Rattle.desk_keeper.proofs.Keeping.{standing-kept}
 use Rattle.live_desk.specs.History.{last_commit}
 use Rattle.wire_messages.specs.Commands.{command_of}
-use Rattle.wire_messages.specs.declared.messages.Message.{Message}
-use Rattle.wire_messages.specs.declared.messages.Message.TheVariants.{Listing, AdminCheck, Stop, ReadState, ReadService}
+use Rattle.wire_fields.specs.declared.messages.Message.{Message}
+use Rattle.wire_fields.specs.declared.messages.Message.TheVariants.{Listing, AdminCheck, Stop, ReadState, ReadService}
 use Rattle.admin_door.specs.Side.{AdminSide, with_kept, with_shown, with_fault}
 use Rattle.admin_door.specs.Settling.{IsFound, Settles, Unsettles}
 use Rattle.admin_door.specs.Answering.{Commits, LacksMemory, IsUnanswered, Obeys, AnswersUnsettled, AnswersQuestion, AnswersBy, RefusesBy}

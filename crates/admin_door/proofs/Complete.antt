@@ -7,11 +7,11 @@ use Rattle.desk_ports.specs.Faults.{next_count}
 use Rattle.link_ports.specs.Traffic.{Traffic}
 use Rattle.desk_state.specs.declared.commands.Command.{Command}
 use Rattle.wire_messages.specs.Commands.{command_of}
-use Rattle.wire_messages.specs.Stream.{Hears, first_of}
-use Rattle.wire_messages.specs.declared.messages.Framed.{Framed}
-use Rattle.wire_messages.specs.declared.messages.Message.{Message}
-use Rattle.wire_messages.specs.declared.operations.Heard.TheVariants.{AtAdmin}
-use Rattle.wire_messages.proofs.Hearings.{heard_once}
+use Rattle.wire_reading.specs.Stream.{Hears, first_of}
+use Rattle.wire_fields.specs.declared.messages.Framed.{Framed}
+use Rattle.wire_fields.specs.declared.messages.Message.{Message}
+use Rattle.wire_fields.specs.declared.operations.Heard.TheVariants.{AtAdmin}
+use Rattle.wire_reading.proofs.Hearings.{heard_once}
 use Rattle.live_desk.specs.History.{last_commit}
 use Rattle.door_frames.proofs.WholeFrames.{nothing_open, right_whole, same_whole, partial_not_whole, carried_so}
 use Rattle.door_frames.specs.Carried.{Carried}

@@ -3,8 +3,8 @@ use Rattle.std.proofs.Common.{◌≡◌, ◌∙◌, inl, inr, ℕ, List, [], ◌
 use Rattle.desk_ports.specs.Disk.{DiskState}
 use Rattle.desk_state.specs.DeskState.{DeskState}
 use Rattle.desk_state.specs.declared.commands.Command.{Command}
-use Rattle.wire_messages.specs.declared.messages.Message.{Message}
-use Rattle.wire_messages.specs.declared.messages.Message.TheVariants.{StoreDamaged}
+use Rattle.wire_fields.specs.declared.messages.Message.{Message}
+use Rattle.wire_fields.specs.declared.messages.Message.TheVariants.{StoreDamaged}
 use Rattle.admin_door.specs.Side.{AdminSide}
 use Rattle.admin_door.specs.Settling.{ReadsDamaged, IsStillDamaged, TellsDamage}
 use Rattle.admin_door.specs.Answering.{AnswersUnsettled, Commits}

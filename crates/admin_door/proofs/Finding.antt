@@ -21,8 +21,8 @@ use Rattle.bucket_eval.specs.Found.{outcome_at}
 use Rattle.bucket_eval.specs.declared.answers.Found.{Found}
 use Rattle.desk_state.specs.DeskState.{DeskState}
 use Rattle.desk_state.specs.declared.refusals.Refusal.TheVariants.{NoBucket}
-use Rattle.wire_messages.specs.declared.messages.Message.{Message}
-use Rattle.wire_messages.specs.declared.messages.Message.TheVariants.{Refused}
+use Rattle.wire_fields.specs.declared.messages.Message.{Message}
+use Rattle.wire_fields.specs.declared.messages.Message.TheVariants.{Refused}
 use Rattle.admin_door.specs.Reply.{about}
 
 -- where no element is found, none passes

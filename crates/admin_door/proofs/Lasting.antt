@@ -9,8 +9,8 @@ use Rattle.desk_keeper.specs.Kept.{Standing, standing}
 use Rattle.desk_keeper.proofs.Keeping.{standing-kept}
 use Rattle.desk_keeper.specs.Keeping.{IsKept}
 use Rattle.wire_messages.specs.Commands.{command_of}
-use Rattle.wire_messages.specs.declared.messages.Message.{Message}
-use Rattle.wire_messages.specs.declared.messages.Message.TheVariants.{Done}
+use Rattle.wire_fields.specs.declared.messages.Message.{Message}
+use Rattle.wire_fields.specs.declared.messages.Message.TheVariants.{Done}
 use Rattle.admin_door.specs.Serving.{Exchange}
 use Rattle.admin_door.specs.Running.{Makes, IsBehind, LeadsTo, LeadsWithin, StandsSince, HasCommit}
 use Rattle.admin_door.proofs.Running.{leads-split}

@@ -6,8 +6,8 @@ use Rattle.std.proofs.lemmas.Bool.{eqb-true}
 use Rattle.std.proofs.lemmas.List.{take_more, take-append-drop, map-append, nil_from_length}
 use Rattle.std.specs.List.{AllByRecursion, flat_map}
 use Rattle.desk_ports.specs.declared.file_sets.SetFile.{SetFile}
-use Rattle.wire_messages.specs.declared.messages.Message.{Message}
-use Rattle.wire_messages.specs.declared.messages.Message.TheVariants.{StateFile}
+use Rattle.wire_fields.specs.declared.messages.Message.{Message}
+use Rattle.wire_fields.specs.declared.messages.Message.TheVariants.{StateFile}
 use Rattle.door_frames.specs.declared.endings.Ended.{Ended}
 use Rattle.door_frames.specs.declared.endings.Ended.TheVariants.{Memory}
 use Rattle.admin_door.specs.State.{AreFiles, ArePartsOf, AreParts, IsPart}

@@ -4,8 +4,8 @@ use Rattle.std.proofs.Common.{append-nil, drop-cons}
 use Rattle.std.proofs.lemmas.Grind.{flat_map-append}
 use Rattle.std.proofs.lemmas.List.{take_more, take-append-drop}
 use Rattle.link_ports.specs.Traffic.{Traffic}
-use Rattle.wire_messages.specs.Frame.{spelling, with_sequence}
-use Rattle.wire_messages.specs.declared.messages.Message.{Message}
+use Rattle.wire_reading.specs.Frame.{spelling, with_sequence}
+use Rattle.wire_fields.specs.declared.messages.Message.{Message}
 use Rattle.door_frames.specs.Carried.{Carried}
 use Rattle.door_frames.specs.Ending.{EndsSending}
 use Rattle.door_frames.specs.declared.endings.Ended.{Ended}

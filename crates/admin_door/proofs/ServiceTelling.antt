@@ -5,8 +5,8 @@ use Rattle.agent_table.specs.Table.{KindsRise}
 use Rattle.desk_state.specs.declared.commands.Command.{Command}
 use Rattle.server_hall.specs.Service.{ServiceTold}
 use Rattle.wire_messages.specs.Commands.{command_of}
-use Rattle.wire_messages.specs.declared.messages.Message.{Message}
-use Rattle.wire_messages.specs.declared.messages.Message.TheVariants.{ReadService}
+use Rattle.wire_fields.specs.declared.messages.Message.{Message}
+use Rattle.wire_fields.specs.declared.messages.Message.TheVariants.{ReadService}
 use Rattle.door_frames.specs.declared.endings.Ended.{Ended}
 use Rattle.door_frames.specs.declared.endings.Ended.TheVariants.{Memory}
 use Rattle.admin_door.specs.Service.{service_replies, IsService, TellsService}

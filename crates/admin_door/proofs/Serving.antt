@@ -5,12 +5,12 @@ use Rattle.std.proofs.lemmas.List.{map-append}
 use Rattle.desk_ports.specs.Disk.{DiskState}
 use Rattle.link_ports.specs.Traffic.{Traffic}
 use Rattle.link_ports.specs.LinkMarks.{LinkMarks}
-use Rattle.wire_messages.specs.Stream.{Feeding, Hears, BeginsWrong, IsOpen, unfed}
-use Rattle.wire_messages.specs.declared.messages.Framed.{Framed}
-use Rattle.wire_messages.specs.declared.messages.Message.{Message}
-use Rattle.wire_messages.specs.declared.messages.Message.TheVariants.{Stop}
-use Rattle.wire_messages.specs.declared.operations.Heard.{Heard}
-use Rattle.wire_messages.specs.declared.operations.Heard.TheVariants.{AtAdmin}
+use Rattle.wire_reading.specs.Stream.{Feeding, Hears, BeginsWrong, IsOpen, unfed}
+use Rattle.wire_fields.specs.declared.messages.Framed.{Framed}
+use Rattle.wire_fields.specs.declared.messages.Message.{Message}
+use Rattle.wire_fields.specs.declared.messages.Message.TheVariants.{Stop}
+use Rattle.wire_fields.specs.declared.operations.Heard.{Heard}
+use Rattle.wire_fields.specs.declared.operations.Heard.TheVariants.{AtAdmin}
 use Rattle.door_frames.specs.Carried.{Carried}
 use Rattle.door_frames.specs.Hearing.{HasHeard, HearsMore, HandsOut}
 use Rattle.door_frames.specs.Ending.{EndsReading, EndsBytes, IsAtEnd, faults_after}

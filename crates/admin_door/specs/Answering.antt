@@ -6,9 +6,10 @@ use Rattle.desk_state.specs.Rules.{fault}
 use Rattle.desk_state.specs.declared.commands.Command.{Command}
 use Rattle.desk_state.specs.declared.refusals.Refusal.{Refusal}
 use Rattle.wire_messages.specs.Commands.{command_of}
-use Rattle.wire_messages.specs.declared.messages.Message.{Message}
-use Rattle.wire_messages.specs.declared.messages.Message.TheVariants.{Refused, Listing, AdminCheck, Stop, StoreFault, StoreDamaged}
-use Rattle.wire_messages.specs.declared.messages.Message.TheVariants.{ReadState, ReadService}
+use Rattle.wire_fields.specs.declared.messages.Message.{Message}
+use Rattle.wire_fields.specs.declared.messages.Message.TheVariants.{Refused, Listing, AdminCheck}
+use Rattle.wire_fields.specs.declared.messages.Message.TheVariants.{Stop, StoreFault, StoreDamaged}
+use Rattle.wire_fields.specs.declared.messages.Message.TheVariants.{ReadState, ReadService}
 use Rattle.door_frames.specs.declared.endings.Ended.{Ended}
 use Rattle.door_frames.specs.declared.endings.Ended.TheVariants.{Memory}
 use Rattle.admin_door.specs.Side.{AdminSide, with_kept, with_shown, with_fault, with_stop}
@@ -21,8 +22,8 @@ use Rattle.admin_door.specs.declared.settling.Unsettled.TheVariants as why
 
 -- ---- a command, from a state that is settled
 
--- The command is accepted: its state is kept, then published behind the others, and then all older connections are hung up,
--- before it is answered as done.
+-- The command is accepted: its state is kept, then published behind the others, and then all older connections are hung
+-- up, before it is answered as done.
 pub record IsDone (command : Command) (settled now : AdminSide) (replies : List Message) : Type 0 where
   pub accepted : fault settled.desk command ≡ None
   pub leaves : now ≡ with_shown (next settled.desk command) (with_kept (next settled.desk command) settled)

@@ -4,11 +4,11 @@ use Rattle.desk_ports.specs.Disk.{DiskState}
 use Rattle.desk_ports.specs.Faults.{last_count}
 use Rattle.link_ports.specs.Traffic.{Traffic}
 use Rattle.desk_state.specs.declared.commands.Command.{Command}
-use Rattle.wire_messages.specs.Stream.{Hears}
-use Rattle.wire_messages.specs.declared.messages.Framed.{Framed}
-use Rattle.wire_messages.specs.declared.messages.Message.{Message}
-use Rattle.wire_messages.specs.declared.messages.Message.TheVariants.{StoreDamaged}
-use Rattle.wire_messages.specs.declared.operations.Heard.TheVariants.{AtAdmin}
+use Rattle.wire_reading.specs.Stream.{Hears}
+use Rattle.wire_fields.specs.declared.messages.Framed.{Framed}
+use Rattle.wire_fields.specs.declared.messages.Message.{Message}
+use Rattle.wire_fields.specs.declared.messages.Message.TheVariants.{StoreDamaged}
+use Rattle.wire_fields.specs.declared.operations.Heard.TheVariants.{AtAdmin}
 use Rattle.door_frames.specs.declared.endings.Ended.{Ended}
 use Rattle.admin_door.specs.Side.{AdminSide}
 use Rattle.admin_door.specs.Settling.{Settles, Unsettles}
@@ -32,8 +32,8 @@ pub record Receives (frames : List Framed) (start now : AdminTalk) : Type 0 wher
   pub received : after.received ≡ before.received ++ bytes
   pub heard : Hears AtAdmin bytes frames []
 
--- Each of these frames was answered where the one before left off, and its replies were sent, in their order. A stop is the
--- last of them, where it ended so, and else there was none.
+-- Each of these frames was answered where the one before left off, and its replies were sent, in their order. A stop is
+-- the last of them, where it ended so, and else there was none.
 pub record AnswersEach (ended : Ended) (frames : List Framed) (start now : AdminTalk) : Type 0 where
   pub exchanges : List Exchange
   pub frames_are : frames_of exchanges ≡ frames
@@ -55,7 +55,8 @@ pub record AnswersFront (ended : Ended) (frames : List Framed) (start now : Admi
 -- ---- a command
 
 -- it is settled what an earlier one left undone, and the command is done, or refused by the first rule that it breaks
-pub record IsDecided (told : Option DiskState) (command : Command) (old now : AdminSide) (replies : List Message) : Type 0 where
+pub record IsDecided (told : Option DiskState) (command : Command) (old now : AdminSide) (replies : List Message) :
+    Type 0 where
   pub between : AdminSide
   pub settles : Settles told old between
   pub done : IsDone command between now replies ⊎ IsRefused command between now replies

@@ -10,8 +10,8 @@ use Rattle.desk_state.specs.DeskState.{DeskState}
 use Rattle.desk_state.specs.Next.{next, erased_by}
 use Rattle.desk_state.specs.declared.commands.Command.{Command}
 use Rattle.desk_state.specs.declared.refusals.Refusal.TheVariants.{NoBucket}
-use Rattle.wire_messages.specs.declared.messages.Message.{Message}
-use Rattle.wire_messages.specs.declared.messages.Message.TheVariants.{Refused, ListRow, ListEnd, Judged, Done}
+use Rattle.wire_fields.specs.declared.messages.Message.{Message}
+use Rattle.wire_fields.specs.declared.messages.Message.TheVariants.{Refused, ListRow, ListEnd, Judged, Done}
 
 -- a question about a bucket that is not there is refused
 abbrev pub about : DeskState → List ℕ → List Message → List Message

@@ -11,8 +11,8 @@ use Rattle.desk_keeper.specs.Kept.{Standing, standing}
 use Rattle.desk_keeper.specs.Keeper.{disk_of, held_of}
 use Rattle.desk_keeper.specs.declared.keeper.Keeper.{Keeper}
 use Rattle.wire_messages.specs.Commands.{command_of}
-use Rattle.wire_messages.specs.declared.messages.Message.{Message}
-use Rattle.wire_messages.specs.declared.messages.Message.TheVariants.{Done}
+use Rattle.wire_fields.specs.declared.messages.Message.{Message}
+use Rattle.wire_fields.specs.declared.messages.Message.TheVariants.{Done}
 use Rattle.admin_door.specs.Side.{decided_of}
 use Rattle.admin_door.specs.Stops.{KeepsKnown}
 use Rattle.admin_door.specs.Serving.{Exchange}
@@ -52,7 +52,8 @@ IsUnderWay found exchange left =
 -- behind all of these frames
 abbrev pub LeadsTo : Standing → List Exchange → Standing → Type 0
 LeadsTo found [] left = left ≡ found
-LeadsTo found (exchange ∷ more) left = (between : Standing) × IsBehind found exchange between × LeadsTo between more left
+LeadsTo found (exchange ∷ more) left =
+    (between : Standing) × IsBehind found exchange between × LeadsTo between more left
 
 -- behind the first few of them, or while the one behind those is answered
 abbrev pub LeadsWithin : Standing → List Exchange → Standing → Type 0
@@ -66,23 +67,24 @@ HasCommit commit left = (desk : DeskState) × (left ≡ Ok desk) × (commit ≤ 
 
 -- ---- the folder
 
--- The map stands for what the first of the frames made of what a stop at this state may leave, and then the first few of the
--- frames behind them, or the one that was answered then.
+-- The map stands for what the first of the frames made of what a stop at this state may leave, and then the first few
+-- of the frames behind them, or the one that was answered then.
 abbrev pub StandsSince : DiskState → List Exchange → List Exchange → FileMap → Type 0
 StandsSince before front back left = (other : FileMap) × (between : Standing) × MayLeave before other
     × LeadsTo (standing other) front between × LeadsWithin between back (standing left)
 
 -- the map stands for what all of the frames made of what a stop at this state may leave
 abbrev pub StandsBehind : DiskState → List Exchange → FileMap → Type 0
-StandsBehind before exchanges left = (other : FileMap) × MayLeave before other × LeadsTo (standing other) exchanges (standing left)
+StandsBehind before exchanges left =
+    (other : FileMap) × MayLeave before other × LeadsTo (standing other) exchanges (standing left)
 
 -- the frames lead to this policy state from the one that was known last, or from what a stop at this state may leave
 abbrev pub ComesFrom : DiskState → DeskState → List Exchange → DeskState → Type 0
 ComesFrom before last exchanges now = LeadsTo (Ok last) exchanges (Ok now)
     ⊎ ((other : FileMap) × MayLeave before other × LeadsTo (standing other) exchanges (Ok now))
 
--- What the disk told before a frame: what is read then is what a stop may leave, and each map that a stop may leave then
--- stands for what the frames in front of it made of what a stop at the first state may leave.
+-- What the disk told before a frame: what is read then is what a stop may leave, and each map that a stop may leave
+-- then stands for what the frames in front of it made of what a stop at the first state may leave.
 pub record IsToldBehind (before : DiskState) (front : List Exchange) (told : Option DiskState) : Type 0 where
   pub found : DiskState
   pub told_is : told ≡ Some found
@@ -100,7 +102,8 @@ IsReached before last exchanges desk =
     (front : List Exchange) × (back : List Exchange) × (exchanges ≡ front ++ back) × ComesFrom before last front desk
 
 -- These frames were answered between two keepers, over a disk that told this state before them.
-pub record KeepsThrough {D : Type 0} (state : D → Option DiskState) (moment : D → ℕ) (left_since : D → ℕ → FileMap → Type 0)
+pub record KeepsThrough {D : Type 0} (state : D → Option DiskState) (moment : D → ℕ)
+    (left_since : D → ℕ → FileMap → Type 0)
     (start now : Keeper D) (before : DiskState) (exchanges : List Exchange) : Type 0 where
   -- what the disk tells behind them
   pub after : DiskState
@@ -108,7 +111,8 @@ pub record KeepsThrough {D : Type 0} (state : D → Option DiskState) (moment : 
   -- what a stop may leave: at any moment of the call, and behind it
   pub leaves : LeavesOnly moment left_since (disk_of start) (disk_of now) (StandsSince before [] exchanges)
   pub behind : (left : FileMap) → MayLeave after left → StandsBehind before exchanges left
-  -- From some moment on, the last at the latest, the first of the frames are answered, and no stop leaves what stood before them.
+  -- From some moment on, the last at the latest, the first of the frames are answered, and no stop leaves what stood
+  -- before them.
   pub since : (front back : List Exchange) → exchanges ≡ front ++ back
       → (at : ℕ) × (moment (disk_of start) ≤ at) × (at ≤ moment (disk_of now))
       × ((left : FileMap) → left_since (disk_of now) at left → StandsSince before front back left)

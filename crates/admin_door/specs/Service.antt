@@ -2,8 +2,8 @@
 use Rattle.std.specs.Prelude.{◌≡◌, List, [], ◌∷◌, ◌++◌, map, Option, Some}
 use Rattle.agent_table.specs.Table.{KindsRise}
 use Rattle.server_hall.specs.Service.{ServiceTold}
-use Rattle.wire_messages.specs.declared.messages.Message.{Message}
-use Rattle.wire_messages.specs.declared.messages.Message.TheVariants.{ReadService, AgentHere, ServiceEnd}
+use Rattle.wire_fields.specs.declared.messages.Message.{Message}
+use Rattle.wire_fields.specs.declared.messages.Message.TheVariants.{ReadService, AgentHere, ServiceEnd}
 
 -- a reply for each kind that has an agent, and then the workers
 abbrev pub service_replies : ServiceTold → List Message

@@ -4,11 +4,11 @@ use Rattle.std.specs.List.{AllByRecursion, flat_map}
 use Rattle.desk_ports.specs.Disk.{DiskState}
 use Rattle.link_ports.specs.Traffic.{Traffic}
 use Rattle.link_ports.specs.LinkMarks.{LinkMarks}
-use Rattle.wire_messages.specs.Frame.{spelling, with_sequence}
-use Rattle.wire_messages.specs.declared.messages.Framed.{Framed}
-use Rattle.wire_messages.specs.declared.messages.Message.{Message}
-use Rattle.wire_messages.specs.declared.messages.Message.TheVariants.{Stop}
-use Rattle.wire_messages.specs.declared.operations.Heard.TheVariants.{AtAdmin}
+use Rattle.wire_reading.specs.Frame.{spelling, with_sequence}
+use Rattle.wire_fields.specs.declared.messages.Framed.{Framed}
+use Rattle.wire_fields.specs.declared.messages.Message.{Message}
+use Rattle.wire_fields.specs.declared.messages.Message.TheVariants.{Stop}
+use Rattle.wire_fields.specs.declared.operations.Heard.TheVariants.{AtAdmin}
 use Rattle.door_frames.specs.Carried.{Carried}
 use Rattle.door_frames.specs.Ending.{EndsBytes, IsAtEnd, faults_after}
 use Rattle.door_frames.specs.declared.endings.Ended.{Ended}
@@ -61,8 +61,8 @@ IsNoStop other = Unit {0}
 abbrev pub AreNoStops : List Exchange → Type 0
 AreNoStops exchanges = AllByRecursion (λ (exchange : Exchange). IsNoStop exchange.framed.message) exchanges
 
--- The frames that were answered are such where a connection ended so: a stop is the last of them where it ended as stopped, and
--- else there is none.
+-- The frames that were answered are such where a connection ended so: a stop is the last of them where it ended as
+-- stopped, and else there is none.
 abbrev pub StopsAt : Ended → List Exchange → Type 0
 StopsAt Stopped answered = (front : List Exchange) × (last : Exchange)
     × (answered ≡ front ++ last ∷ []) × AreNoStops front × (last.framed.message ≡ Stop)
@@ -83,17 +83,19 @@ pub record IsBrokenOff (ended : Ended) (exchange : Exchange) (sent : List Messag
   pub replies : exchange.replies ≡ sent ++ next ∷ unsent
   pub reason : IsUnsent ended
 
--- What came behind the frames whose replies were all sent, and which bytes were sent for it: nothing; a frame that had no
--- answer; or a frame whose answer was not sent whole.
+-- What came behind the frames whose replies were all sent, and which bytes were sent for it: nothing; a frame that had
+-- no answer; or a frame whose answer was not sent whole.
 abbrev pub EndsAnswering : Ended → AdminSide → AdminSide → List Exchange → List ℕ → Type 0
 EndsAnswering cause between now last bytes =
     ((last ≡ []) × (bytes ≡ []) × (now ≡ between))
     ⊎ (((exchange : Exchange) × (last ≡ exchange ∷ []) × (bytes ≡ []) × (exchange.replies ≡ [])
     × Refuses exchange.told exchange.framed.message between now cause)
     ⊎ ((exchange : Exchange) × (sent : List Message) × (last ≡ exchange ∷ [])
-    × (bytes ≡ replies_bytes exchange.framed.sequence sent) × IsAnswered exchange between now × IsBrokenOff cause exchange sent))
+    × (bytes ≡ replies_bytes exchange.framed.sequence sent) × IsAnswered exchange between now
+    × IsBrokenOff cause exchange sent))
 
--- how a connection ends at a frame that is answered, where its answer is not sent whole for this: a stop is made by then
+-- how a connection ends at a frame that is answered, where its answer is not sent whole for this: a stop is made by
+-- then
 abbrev pub ended_behind : Message → Ended → Ended
 ended_behind Stop cause = Stopped
 ended_behind other cause = cause
@@ -111,11 +113,12 @@ pub record StopsUnsent (cause : Ended) (answered last : List Exchange) : Type 0 
   pub no_stops : AreNoStops answered
   pub reason : IsUnsent cause
 
--- A connection ends for what caused it, or as stopped: exactly where a stop was made, whether or not its reply was sent, and no
--- stop was made before.
+-- A connection ends for what caused it, or as stopped: exactly where a stop was made, whether or not its reply was
+-- sent, and no stop was made before.
 abbrev pub EndsFor : Ended → Ended → List Exchange → List Exchange → Type 0
 EndsFor ended cause answered last =
-    ((ended ≡ cause) × StopsAt ended answered × MakesNoStop last) ⊎ ((ended ≡ Stopped) × StopsUnsent cause answered last)
+    ((ended ≡ cause) × StopsAt ended answered × MakesNoStop last)
+    ⊎ ((ended ≡ Stopped) × StopsUnsent cause answered last)
 
 -- ---- a whole connection
 
@@ -129,8 +132,8 @@ pub record AdminTalk : Type 0 where
 abbrev pub talk_of : AdminSide → Option Traffic → LinkMarks → ℕ → AdminTalk
 talk_of side traffic marks faults = record { side = side; traffic = traffic; marks = marks; faults = faults }
 
--- The frames received were answered in turn, with the replies in order, up to what caused its end. What these frames, the last one
--- with them, left elsewhere is as `Keeps` says.
+-- The frames received were answered in turn, with the replies in order, up to what caused its end. What these frames,
+-- the last one with them, left elsewhere is as `Keeps` says.
 pub record Serves (start now : AdminTalk) (ended : Ended) (Keeps : List Exchange → Type 0) : Type 0 where
   pub received : List ℕ
   pub answered : List Exchange

@@ -6,8 +6,8 @@ use Rattle.desk_keeper.specs.Kept.{kept}
 use Rattle.desk_keeper.specs.Keeping.{IsOlder}
 use Rattle.live_desk.specs.History.{last_commit}
 use Rattle.server_hall.specs.Tally.{Tally}
-use Rattle.wire_messages.specs.declared.messages.Message.{Message}
-use Rattle.wire_messages.specs.declared.messages.Message.TheVariants.{StoreDamaged as StoreDamagedReply}
+use Rattle.wire_fields.specs.declared.messages.Message.{Message}
+use Rattle.wire_fields.specs.declared.messages.Message.TheVariants.{StoreDamaged as StoreDamagedReply}
 use Rattle.admin_door.specs.Side.{AdminSide, with_shown, with_fault}
 use Rattle.admin_door.specs.declared.settling.Unsettled.{Unsettled}
 use Rattle.admin_door.specs.declared.settling.Unsettled.TheVariants.{StoreFault, StoreDamaged, Memory}
@@ -21,10 +21,11 @@ pub record IsFound (told : Option DiskState) (old now : AdminSide) : Type 0 wher
   -- and nothing else was done
   pub rest : now ≡ record old { desk = now.desk; decided = now.decided }
 
--- A state that is kept is shown to all: it is published, and all older connections are hung up, where it is newer than what
--- was published.
+-- A state that is kept is shown to all: it is published, and all older connections are hung up, where it is newer than
+-- what was published.
 abbrev pub with_last_shown : AdminSide → AdminSide
-with_last_shown side = if nat_lt (last_commit 0 side.published) side.desk.commit then with_shown side.desk side else side
+with_last_shown side =
+    if nat_lt (last_commit 0 side.published) side.desk.commit then with_shown side.desk side else side
 
 -- It is known what the folder keeps, and that is shown to all.
 pub record Settles (told : Option DiskState) (old now : AdminSide) : Type 0 where
@@ -36,8 +37,8 @@ pub record Settles (told : Option DiskState) (old now : AdminSide) : Type 0 wher
 abbrev pub IsHungFor : ℕ → List DeskState → Tally → Type 0
 IsHungFor before published tally = (last_commit 0 published ≡ before) ⊎ (tally.cleared ≡ last_commit 0 published)
 
--- Why it is not settled: a call of the disk failed; the folder stands for no policy state, or for an older one; or for want of
--- memory, before or after it was found what the folder keeps.
+-- Why it is not settled: a call of the disk failed; the folder stands for no policy state, or for an older one; or for
+-- want of memory, before or after it was found what the folder keeps.
 abbrev pub Unsettles : Option DiskState → AdminSide → AdminSide → Unsettled → Type 0
 Unsettles told old now StoreFault = (old.decided ≡ false) × (now ≡ with_fault old)
 Unsettles told old now (StoreDamaged file line) = (old.decided ≡ false) × (now ≡ old)
@@ -49,7 +50,8 @@ Unsettles told old now Memory = (now ≡ old) ⊎ IsFound told old now
 
 -- the folder reads as damaged in this file and line, or as an older state than this one
 abbrev pub ReadsDamaged : DeskState → Option DiskState → List ℕ → ℕ → Type 0
-ReadsDamaged last told file line = WhereTold told (λ after. (kept after.current ≡ Err (record { file = file; line = line }))
+ReadsDamaged last told file line =
+    WhereTold told (λ after. (kept after.current ≡ Err (record { file = file; line = line }))
     ⊎ IsOlder last after.current (record { file = file; line = line }))
 
 -- a damage that was found stands still
@@ -60,4 +62,5 @@ IsStillDamaged last told Memory = Unit {0}
 
 -- a command that is answered so leaves a folder that reads so
 abbrev pub TellsDamage : DeskState → Option DiskState → List Message → Type 0
-TellsDamage last told replies = (file : List ℕ) (line : ℕ) → replies ≡ StoreDamagedReply file line ∷ [] → ReadsDamaged last told file line
+TellsDamage last told replies = (file : List ℕ) (line : ℕ) → replies ≡ StoreDamagedReply file line ∷ []
+    → ReadsDamaged last told file line

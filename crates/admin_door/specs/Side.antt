@@ -7,8 +7,8 @@ use Rattle.live_desk.specs.History.{last_commit}
 use Rattle.server_hall.specs.Tally.{Tally, after_hang, after_stop}
 use Rattle.server_hall.specs.declared.calls.HallCall.{HallCall}
 
--- the last state that is known to be kept, and whether it is known what the folder keeps now; the states that were published;
--- the hall's tally and calls; and the count of the disk's faults
+-- the last state that is known to be kept, and whether it is known what the folder keeps now; the states that were
+-- published; the hall's tally and calls; and the count of the disk's faults
 pub record AdminSide : Type 0 where
   pub desk : DeskState
   pub decided : Bool

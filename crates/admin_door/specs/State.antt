@@ -4,8 +4,8 @@ use Rattle.std.specs.List.{AllByRecursion, flat_map}
 use Rattle.desk_ports.specs.declared.file_sets.SetFile.{SetFile}
 use Rattle.desk_state.specs.DeskState.{DeskState}
 use Rattle.set_text.specs.Files.{files}
-use Rattle.wire_messages.specs.declared.messages.Message.{Message}
-use Rattle.wire_messages.specs.declared.messages.Message.TheVariants.{StateFile, StateEnd}
+use Rattle.wire_fields.specs.declared.messages.Message.{Message}
+use Rattle.wire_fields.specs.declared.messages.Message.TheVariants.{StateFile, StateEnd}
 
 -- some bytes, and at most 65,536
 abbrev pub IsPart : List ℕ → Type 0
@@ -27,4 +27,5 @@ AreFiles (file ∷ more) messages = (parts : List (List ℕ)) × (others : List 
 
 -- all files of the state, in the order of their names, and then its commit
 abbrev pub AreState : DeskState → List Message → Type 0
-AreState desk replies = (messages : List Message) × AreFiles (files desk) messages × (replies ≡ messages ++ StateEnd desk.commit ∷ [])
+AreState desk replies =
+    (messages : List Message) × AreFiles (files desk) messages × (replies ≡ messages ++ StateEnd desk.commit ∷ [])

@@ -14,8 +14,8 @@ use Rattle.desk_keeper.specs.Keeping.{IsKept}
 abbrev pub KeepsKnown : Bool → DeskState → Option (List SetFile) → DiskState → Type 0
 KeepsKnown decided desk held state = decided ≡ true → IsKept desk held state
 
--- The map stands for what a map that a stop at this state may leave stands for: a policy state, a damaged store, or a set that
--- is refused.
+-- The map stands for what a map that a stop at this state may leave stands for: a policy state, a damaged store, or a
+-- set that is refused.
 abbrev pub StandsAsAt : DiskState → FileMap → Type 0
 StandsAsAt before left = (other : FileMap) × MayLeave before other × (standing left ≡ standing other)
 

@@ -6,11 +6,11 @@ ghost use Rattle.desk_keeper.specs.Keeper.{disk_of, held_of, IsSameDisk};
 ghost use Rattle.desk_keeper.specs.Keeping.{EndsKept};
 ghost use Rattle.wire_messages.specs.Commands.{command_of};
 ghost use Rattle.live_desk.specs.History.{last_commit};
-ghost use Rattle.wire_messages.specs.Operation.{number_of, operation_of};
-ghost use Rattle.wire_messages.specs.Message.{operation};
-ghost use Rattle.wire_messages.specs.Stream.{unfed};
-ghost use Rattle.wire_messages.specs.declared.operations.Heard.TheVariants.{AtAdmin};
-ghost use Rattle.wire_messages.specs.declared.messages.Message.TheVariants.{Stop};
+ghost use Rattle.wire_fields.specs.Operation.{number_of, operation_of};
+ghost use Rattle.wire_fields.specs.Message.{operation};
+ghost use Rattle.wire_reading.specs.Stream.{unfed};
+ghost use Rattle.wire_fields.specs.declared.operations.Heard.TheVariants.{AtAdmin};
+ghost use Rattle.wire_fields.specs.declared.messages.Message.TheVariants.{Stop};
 ghost use Rattle.door_frames.specs.Carried.{Carried};
 ghost use Rattle.door_frames.specs.Hearing.{IsSound};
 ghost use Rattle.admin_door.specs.Side.{side_of, decided_of};
@@ -33,9 +33,9 @@ use std::alloc::Global;
 use std::sync::Wait;
 use wire_messages::{Feeder, Framed, Heard, Message};
 
-/// Serves one connection of an administrator: each message is answered in turn, and `Stop` is the last: it ends the connection as
-/// stopped, whether or not its reply can be sent. What a stop at any moment may leave in the folder, and what the folder keeps
-/// behind the connection, is told of its frames (`RunsOver`). It may wait.
+/// Serves one connection of an administrator: each message is answered in turn, and `Stop` is the last: it ends the
+/// connection as stopped, whether or not its reply can be sent. What a stop at any moment may leave in the folder, and
+/// what the folder keeps behind the connection, is told of its frames (`RunsOver`). It may wait.
 pub fn admin_loop<R: Wait, D: Disk, A: Hall, L: Link, J: Naming>(
     rt: &R,
     alloc: Global,
@@ -57,6 +57,7 @@ pub fn admin_loop<R: Wait, D: Disk, A: Hall, L: Link, J: Naming>(
     ensures behind { last_commit 0 publisher.new ≤ keeper.new.desk.commit }
     ensures same_disk { IsSameDisk keeper.old keeper.new }
 {
+    // proof: the result has a name, so that what follows of it is told at the end.
     let ended = serve(rt, alloc, keeper, publisher, hall, link);
     ended
 }
@@ -155,7 +156,8 @@ fn answer_frame<R: Wait, D: Disk, A: Hall, L: Link, J: Naming>(
     frame: &mut Bytes,
     framed: &Framed,
 ) -> Result<(), Ended>
-    requires known { operation_of AtAdmin (number_of (operation framed.now.message)) ≡ Some (operation framed.now.message) }
+    requires known { operation_of AtAdmin (number_of (operation framed.now.message))
+        ≡ Some (operation framed.now.message) }
     requires behind { last_commit 0 publisher.old ≤ keeper.old.desk.commit }
     ensures answered { MatchResult result
         (λ _. IsNoStop framed.now.message × IsWhole (D.state (disk_of keeper.old)) framed.now
@@ -170,7 +172,8 @@ fn answer_frame<R: Wait, D: Disk, A: Hall, L: Link, J: Naming>(
         (L.traffic link.new) (L.marks link.new) (L.faults link.new))) }
     ensures stops { WhereTold (D.state (disk_of keeper.old)) (λ before.
         KeepsKnown (decided_of keeper.old) keeper.old.desk (held_of keeper.old) before
-        → LeavesOnly D.moment D.left_since (disk_of keeper.old) (disk_of keeper.new) (StandsBy (command_of framed.now.message) before)) }
+        → LeavesOnly D.moment D.left_since (disk_of keeper.old) (disk_of keeper.new)
+        (StandsBy (command_of framed.now.message) before)) }
     ensures kept { WhereTold (D.state (disk_of keeper.old)) (λ before.
         KeepsKnown (decided_of keeper.old) keeper.old.desk (held_of keeper.old) before
         → decided_of keeper.new ≡ true → EndsKept keeper.new.desk (held_of keeper.new) (D.state (disk_of keeper.new))) }
@@ -188,8 +191,8 @@ fn answer_frame<R: Wait, D: Disk, A: Hall, L: Link, J: Naming>(
     go_on(&framed.message)
 }
 
-// How the connection ends where the replies to a message are not all sent. A stop is made by then, so that one whose sender has
-// left still ends the service.
+// How the connection ends where the replies to a message are not all sent. A stop is made by then, so that one whose
+// sender has left still ends the service.
 fn ended_behind(message: &Message, cause: Ended) -> Ended
     ensures { result ≡ words.ended_behind message.now cause }
 {
@@ -209,8 +212,8 @@ fn go_on(message: &Message) -> Result<(), Ended>
     }
 }
 
-// Sends the replies that are due to a frame, each with its sequence number: what they tell as done stands in the keeper, the
-// publisher and the hall before the first byte is sent.
+// Sends the replies that are due to a frame, each with its sequence number: what they tell as done stands in the
+// keeper, the publisher and the hall before the first byte is sent.
 fn send_due<D: Disk, A: Hall, L: Link, J: Naming>(
     keeper: &Keeper<'_, D>,
     publisher: &Publisher<J>,

@@ -10,12 +10,12 @@ ghost use Rattle.desk_keeper.specs.Keeping.{IsKept, EndsKept, IsBeforeOrAfter};
 ghost use Rattle.admin_door.specs.Adding.{AddsAtMost, Acknowledges};
 ghost use Rattle.admin_door.specs.Stops.{KeepsKnown, StandsBy, IsBeforeOrApplied};
 ghost use Rattle.live_desk.specs.History.{last_commit};
-ghost use Rattle.wire_messages.specs.Operation.{number_of, operation_of};
-ghost use Rattle.wire_messages.specs.Message.{operation};
+ghost use Rattle.wire_fields.specs.Operation.{number_of, operation_of};
+ghost use Rattle.wire_fields.specs.Message.{operation};
 ghost use Rattle.wire_messages.specs.Commands as words;
 ghost use Rattle.wire_messages.specs.Commands.{IsByRule};
 ghost use Rattle.server_hall.specs.Tally.{after_stop};
-ghost use Rattle.wire_messages.specs.declared.operations.Heard.TheVariants.{AtAdmin};
+ghost use Rattle.wire_fields.specs.declared.operations.Heard.TheVariants.{AtAdmin};
 ghost use Rattle.door_frames.specs.declared.endings.Ended.TheVariants.{Memory};
 ghost use Rattle.admin_door.specs.Side.{side_of, decided_of};
 ghost use Rattle.admin_door.specs.Settling.{IsHungFor, TellsDamage};
@@ -40,9 +40,10 @@ use std::alloc::Global;
 use std::sync::Wait;
 use wire_messages::{Message, command_of};
 
-/// Answers one message of an administrator. A command is answered once what an earlier one left undone is settled: as done,
-/// once its state is durable and published and all older connections are hung up; by the first rule that it breaks; or by what
-/// the store met. A question is answered at the last state that is known to be kept, and `Stop` stops the hall. It may wait.
+/// Answers one message of an administrator. A command is answered once what an earlier one left undone is settled: as
+/// done, once its state is durable and published and all older connections are hung up; by the first rule that it
+/// breaks; or by what the store met. A question is answered at the last state that is known to be kept, and `Stop`
+/// stops the hall. It may wait.
 pub fn answer_command<R: Wait, D: Disk, A: Hall, J: Naming>(
     rt: &R,
     alloc: Global,
@@ -70,16 +71,19 @@ pub fn answer_command<R: Wait, D: Disk, A: Hall, J: Naming>(
     // What a stop at any moment of the call may leave in the folder, and what the folder keeps behind the call.
     ensures stops { WhereTold (D.state (disk_of keeper.old)) (λ before.
         KeepsKnown (decided_of keeper.old) keeper.old.desk (held_of keeper.old) before
-        → LeavesOnly D.moment D.left_since (disk_of keeper.old) (disk_of keeper.new) (StandsBy (words.command_of message.now) before)) }
+        → LeavesOnly D.moment D.left_since (disk_of keeper.old) (disk_of keeper.new)
+        (StandsBy (words.command_of message.now) before)) }
     ensures kept { WhereTold (D.state (disk_of keeper.old)) (λ before.
         KeepsKnown (decided_of keeper.old) keeper.old.desk (held_of keeper.old) before
         → decided_of keeper.new ≡ true → EndsKept keeper.new.desk (held_of keeper.new) (D.state (disk_of keeper.new))) }
     ensures tells { StillTells (D.state (disk_of keeper.old)) (D.state (disk_of keeper.new)) }
-    ensures damaged { IfOk result (λ replies. IsSome (words.command_of message.now) → WhereTold (D.state (disk_of keeper.old)) (λ before.
+    ensures damaged { IfOk result
+        (λ replies. IsSome (words.command_of message.now) → WhereTold (D.state (disk_of keeper.old)) (λ before.
         TellsDamage keeper.old.desk (D.state (disk_of keeper.new)) replies.items)) }
     ensures behind { last_commit 0 publisher.new ≤ keeper.new.desk.commit }
     ensures same_disk { IsSameDisk keeper.old keeper.new }
 {
+    // proof: both outcomes are named, so that what follows of each is told at the end.
     match answer(rt, alloc, keeper, publisher, hall, message) {
         Ok(replies) => Ok(replies),
         Err(ended) => Err(ended),
@@ -107,12 +111,14 @@ fn answer<R: Wait, D: Disk, A: Hall, J: Naming>(
     ensures service { IfOk result (λ replies. TellsService message.now (A.told hall.old) replies.items) }
     ensures stops { WhereTold (D.state (disk_of keeper.old)) (λ before.
         KeepsKnown (decided_of keeper.old) keeper.old.desk (held_of keeper.old) before
-        → LeavesOnly D.moment D.left_since (disk_of keeper.old) (disk_of keeper.new) (StandsBy (words.command_of message.now) before)) }
+        → LeavesOnly D.moment D.left_since (disk_of keeper.old) (disk_of keeper.new)
+        (StandsBy (words.command_of message.now) before)) }
     ensures kept { WhereTold (D.state (disk_of keeper.old)) (λ before.
         KeepsKnown (decided_of keeper.old) keeper.old.desk (held_of keeper.old) before
         → decided_of keeper.new ≡ true → EndsKept keeper.new.desk (held_of keeper.new) (D.state (disk_of keeper.new))) }
     ensures tells { StillTells (D.state (disk_of keeper.old)) (D.state (disk_of keeper.new)) }
-    ensures damaged { IfOk result (λ replies. IsSome (words.command_of message.now) → WhereTold (D.state (disk_of keeper.old)) (λ before.
+    ensures damaged { IfOk result
+        (λ replies. IsSome (words.command_of message.now) → WhereTold (D.state (disk_of keeper.old)) (λ before.
         TellsDamage keeper.old.desk (D.state (disk_of keeper.new)) replies.items)) }
     ensures behind { last_commit 0 publisher.new ≤ keeper.new.desk.commit }
     ensures same_disk { IsSameDisk keeper.old keeper.new }
@@ -189,7 +195,8 @@ fn obey<R: Wait, D: Disk, A: Hall, J: Naming>(
         (side_of D.faults keeper.new publisher.new (A.tally hall.new) (A.calls hall.new))) }
     ensures stops { WhereTold (D.state (disk_of keeper.old)) (λ before.
         KeepsKnown (decided_of keeper.old) keeper.old.desk (held_of keeper.old) before
-        → LeavesOnly D.moment D.left_since (disk_of keeper.old) (disk_of keeper.new) (StandsBy (Some command.now) before)) }
+        → LeavesOnly D.moment D.left_since (disk_of keeper.old) (disk_of keeper.new)
+        (StandsBy (Some command.now) before)) }
     ensures kept { WhereTold (D.state (disk_of keeper.old)) (λ before.
         KeepsKnown (decided_of keeper.old) keeper.old.desk (held_of keeper.old) before
         → decided_of keeper.new ≡ true → EndsKept keeper.new.desk (held_of keeper.new) (D.state (disk_of keeper.new))) }
@@ -217,8 +224,8 @@ fn tell_unsettled(alloc: Global, reason: Unsettled) -> Result<Vec<Message>, Ende
     }
 }
 
-// Does what the command says, from a state that is kept and shown to all: where one was published behind the commit that is
-// given, all older connections are hung up.
+// Does what the command says, from a state that is kept and shown to all: where one was published behind the commit
+// that is given, all older connections are hung up.
 fn commit<R: Wait, D: Disk, A: Hall, J: Naming>(
     rt: &R,
     alloc: Global,
@@ -238,9 +245,12 @@ fn commit<R: Wait, D: Disk, A: Hall, J: Naming>(
         (λ ended. (ended ≡ Memory) × LacksMemory command.now
         (side_of D.faults keeper.old publisher.old (A.tally hall.old) (A.calls hall.old))
         (side_of D.faults keeper.new publisher.new (A.tally hall.new) (A.calls hall.new))) }
-    ensures stops { WhereTold (D.state (disk_of keeper.old)) (λ before. IsKept keeper.old.desk (held_of keeper.old) before
-        → LeavesOnly D.moment D.left_since (disk_of keeper.old) (disk_of keeper.new) (IsBeforeOrApplied keeper.old.desk command.now)) }
-    ensures kept { WhereTold (D.state (disk_of keeper.old)) (λ before. IsKept keeper.old.desk (held_of keeper.old) before
+    ensures stops { WhereTold (D.state (disk_of keeper.old))
+        (λ before. IsKept keeper.old.desk (held_of keeper.old) before
+        → LeavesOnly D.moment D.left_since (disk_of keeper.old) (disk_of keeper.new)
+        (IsBeforeOrApplied keeper.old.desk command.now)) }
+    ensures kept { WhereTold (D.state (disk_of keeper.old))
+        (λ before. IsKept keeper.old.desk (held_of keeper.old) before
         → decided_of keeper.new ≡ true → EndsKept keeper.new.desk (held_of keeper.new) (D.state (disk_of keeper.new))) }
     ensures tells { StillTells (D.state (disk_of keeper.old)) (D.state (disk_of keeper.new)) }
     ensures behind { last_commit 0 publisher.new ≤ keeper.new.desk.commit }
@@ -263,7 +273,8 @@ fn tell_refusal(alloc: Global, refusal: Refusal) -> Result<Vec<Message>, Ended>
     }
 }
 
-// Commits what was prepared, and then shows it to all. All memory but that of the publication is taken before the commit.
+// Commits what was prepared, and then shows it to all. All memory but that of the publication is taken before the
+// commit.
 fn commit_prepared<R: Wait, D: Disk, A: Hall, J: Naming>(
     rt: &R,
     alloc: Global,
@@ -283,9 +294,12 @@ fn commit_prepared<R: Wait, D: Disk, A: Hall, J: Naming>(
         (λ ended. (ended ≡ Memory) × IsUnshown prepared.desk
         (side_of D.faults keeper.old publisher.old (A.tally hall.old) (A.calls hall.old))
         (side_of D.faults keeper.new publisher.new (A.tally hall.new) (A.calls hall.new))) }
-    ensures stops { WhereTold (D.state (disk_of keeper.old)) (λ before. IsKept keeper.old.desk (held_of keeper.old) before
-        → LeavesOnly D.moment D.left_since (disk_of keeper.old) (disk_of keeper.new) (IsBeforeOrAfter keeper.old.desk prepared.desk)) }
-    ensures kept { WhereTold (D.state (disk_of keeper.old)) (λ before. IsKept keeper.old.desk (held_of keeper.old) before
+    ensures stops { WhereTold (D.state (disk_of keeper.old))
+        (λ before. IsKept keeper.old.desk (held_of keeper.old) before
+        → LeavesOnly D.moment D.left_since (disk_of keeper.old) (disk_of keeper.new)
+        (IsBeforeOrAfter keeper.old.desk prepared.desk)) }
+    ensures kept { WhereTold (D.state (disk_of keeper.old))
+        (λ before. IsKept keeper.old.desk (held_of keeper.old) before
         → decided_of keeper.new ≡ true → EndsKept keeper.new.desk (held_of keeper.new) (D.state (disk_of keeper.new))) }
     ensures tells { StillTells (D.state (disk_of keeper.old)) (D.state (disk_of keeper.new)) }
     ensures behind { last_commit 0 publisher.new ≤ keeper.new.desk.commit }

@@ -1,8 +1,8 @@
 //! The door for administrators: the messages that come over a connection, each answered along the policy state in the
 //! folder.
 //!
-//! A command is answered as done only once its state is durable and published, and each connection of a client that entered
-//! before it was hung up. What an earlier command left undone is settled before the next.
+//! A command is answered as done only once its state is durable and published, and each connection of a client that
+//! entered before it was hung up. What an earlier command left undone is settled before the next.
 #![tactic(auto)]
 
 mod admin_loops;

@@ -2,7 +2,7 @@
 ghost use Rattle.std.specs.Prelude.{◌≡◌, ◌≤◌, ◌++◌, ◌∷◌, [], length, map, IsSome, IfSome, MatchResult};
 ghost use Rattle.bucket_eval.specs.Found.{outcome_at, answer_of};
 ghost use Rattle.desk_state.specs.declared.refusals.Refusal.TheVariants.{NoBucket};
-ghost use Rattle.wire_messages.specs.declared.messages.Message.TheVariants.{Refused, ListRow, ListEnd, Judged};
+ghost use Rattle.wire_fields.specs.declared.messages.Message.TheVariants.{Refused, ListRow, ListEnd, Judged};
 ghost use Rattle.door_frames.specs.declared.endings.Ended.TheVariants.{Memory};
 ghost use Rattle.admin_door.specs.Reply.{list_replies, check_replies};
 
@@ -101,7 +101,8 @@ fn judged(
 
 // The reply that a bucket is not there.
 fn no_bucket(alloc: Global, bucket: &BucketName) -> Result<Vec<Message>, Ended>
-    ensures { MatchResult result (λ replies. replies.items ≡ Refused (NoBucket bucket.now) ∷ []) (λ ended. ended ≡ Memory) }
+    ensures { MatchResult result (λ replies. replies.items ≡ Refused (NoBucket bucket.now) ∷ [])
+        (λ ended. ended ≡ Memory) }
 {
     match bucket.copy() {
         Ok(name) => {
@@ -119,8 +120,8 @@ pub(crate) fn one(alloc: Global, message: Message) -> Result<Vec<Message>, Ended
     with_one(Vec::new(alloc), message)
 }
 
-// The list with one more behind it. It goes by value and is of any type, so that no proof goes through the variants of a
-// message.
+// The list with one more behind it.
+// proof: by value and of any type, so that the variants of a message are not gone through.
 pub(crate) fn with_one<T: Drop>(list: Vec<T>, last: T) -> Result<Vec<T>, Ended>
     ensures { MatchResult result (λ longer. longer.items ≡ list.items ++ last ∷ []) (λ ended. ended ≡ Memory) }
 {

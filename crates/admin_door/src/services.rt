@@ -2,7 +2,7 @@
 ghost use Rattle.std.specs.Prelude.{◌≡◌, ◌++◌, ◌∷◌, [], map, MatchResult, IfOk};
 ghost use Rattle.agent_table.specs.Table.{KindsRise};
 ghost use Rattle.server_hall.specs.Service.{told_by};
-ghost use Rattle.wire_messages.specs.declared.messages.Message.TheVariants.{ReadService, AgentHere};
+ghost use Rattle.wire_fields.specs.declared.messages.Message.TheVariants.{ReadService, AgentHere};
 ghost use Rattle.door_frames.specs.declared.endings.Ended.TheVariants.{Memory};
 ghost use Rattle.admin_door.specs.Service.{service_replies, IsService, TellsService};
 

@@ -1,4 +1,5 @@
-// What an earlier command left undone: a folder of which it is not known what it keeps, and a state that is not published.
+// What an earlier command left undone: a folder of which it is not known what it keeps, and a state that is not
+// published.
 ghost use Rattle.std.specs.Prelude.{◌≡◌, ◌≤◌, true, false, List, Option, MatchResult, IfErr, OnOk, OnErr};
 ghost use Rattle.desk_state.specs.DeskState.{DeskState};
 ghost use Rattle.desk_ports.specs.Disk.{WhereTold};
@@ -31,8 +32,8 @@ pub(crate) enum Unsettled {
     Memory,
 }
 
-/// Remounts a keeper that is undecided; and publishes its state, and hangs up all older connections, where its commit is above
-/// that of the publisher. It may wait.
+/// Remounts a keeper that is undecided; and publishes its state, and hangs up all older connections, where its commit
+/// is above that of the publisher. It may wait.
 pub(crate) fn settle<R: Wait, D: Disk, A: Hall, J: Naming>(
     rt: &R,
     keeper: &mut Keeper<'_, D>,
@@ -51,7 +52,8 @@ pub(crate) fn settle<R: Wait, D: Disk, A: Hall, J: Naming>(
         LeavesOnly D.moment D.left_since (disk_of keeper.old) (disk_of keeper.new) (StandsAsAt before)) }
     ensures kept { WhereTold (D.state (disk_of keeper.old)) (λ before.
         KeepsKnown (decided_of keeper.old) keeper.old.desk (held_of keeper.old) before → decided_of keeper.new ≡ true
-        → EndsKept keeper.new.desk (held_of keeper.new) (D.state (disk_of keeper.new)) × Allows before keeper.new.desk) }
+        → EndsKept keeper.new.desk (held_of keeper.new) (D.state (disk_of keeper.new))
+        × Allows before keeper.new.desk) }
     ensures tells { StillTells (D.state (disk_of keeper.old)) (D.state (disk_of keeper.new)) }
     ensures damaged { IfErr result (λ reason. WhereTold (D.state (disk_of keeper.old)) (λ before.
         IsStillDamaged keeper.old.desk (D.state (disk_of keeper.new)) reason)) }
@@ -72,7 +74,8 @@ pub(crate) fn settle<R: Wait, D: Disk, A: Hall, J: Naming>(
 // Settles what the folder keeps.
 fn remount<D: Disk>(keeper: &mut Keeper<'_, D>) -> Result<(), Unsettled>
     requires { decided_of keeper.old ≡ false }
-    ensures remounted { (published : List DeskState) (tally : Tally) (calls : Option (List HallCall)) → MatchResult result
+    ensures remounted { (published : List DeskState) (tally : Tally) (calls : Option (List HallCall))
+        → MatchResult result
         (λ _. IsFound (D.state (disk_of keeper.old))
         (side_of D.faults keeper.old published tally calls) (side_of D.faults keeper.new published tally calls))
         (Unsettles (D.state (disk_of keeper.old))
@@ -80,7 +83,8 @@ fn remount<D: Disk>(keeper: &mut Keeper<'_, D>) -> Result<(), Unsettled>
     ensures stops { WhereTold (D.state (disk_of keeper.old)) (λ before.
         LeavesOnly D.moment D.left_since (disk_of keeper.old) (disk_of keeper.new) (StandsAsAt before)) }
     ensures kept { WhereTold (D.state (disk_of keeper.old)) (λ before. decided_of keeper.new ≡ true
-        → EndsKept keeper.new.desk (held_of keeper.new) (D.state (disk_of keeper.new)) × Allows before keeper.new.desk) }
+        → EndsKept keeper.new.desk (held_of keeper.new) (D.state (disk_of keeper.new))
+        × Allows before keeper.new.desk) }
     ensures tells { StillTells (D.state (disk_of keeper.old)) (D.state (disk_of keeper.new)) }
     ensures damaged { IfErr result (λ reason. WhereTold (D.state (disk_of keeper.old)) (λ before.
         IsStillDamaged keeper.old.desk (D.state (disk_of keeper.new)) reason)) }

@@ -1,7 +1,7 @@
 // The whole policy state, as its files.
 ghost use Rattle.std.specs.Prelude.{◌≡◌, ◌<◌, ◌++◌, ◌∷◌, [], List, ℕ, length, map, MatchResult};
 ghost use Rattle.set_text.specs.Files.{files};
-ghost use Rattle.wire_messages.specs.declared.messages.Message.TheVariants.{StateFile};
+ghost use Rattle.wire_fields.specs.declared.messages.Message.TheVariants.{StateFile};
 ghost use Rattle.door_frames.specs.declared.endings.Ended.TheVariants.{Memory};
 ghost use Rattle.admin_door.specs.State.{AreState, AreFiles, ArePartsOf, AreParts};
 

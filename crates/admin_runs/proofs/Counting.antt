@@ -1,5 +1,6 @@
 -- How often the dialler failed by the end of a run.
-use Rattle.std.proofs.Common.{◌≡◌, inl, inr, ℕ, Bool, true, false, cond, List, [], ◌∷◌, Option, Some, None, Result, Ok, Err, refl, sym, ap, ◌∙◌, subst}
+use Rattle.std.proofs.Common.{◌≡◌, inl, inr, ℕ, Bool, true, false, cond, List, [], ◌∷◌, Option, Some, None, Result, Ok}
+use Rattle.std.proofs.Common.{Err, refl, sym, ap, ◌∙◌, subst}
 use Rattle.desk_ports.specs.Faults.{next_count}
 use Rattle.desk_ports.specs.PortFault.{count_after_refusal}
 use Rattle.desk_ports.specs.declared.port_faults.PortFault.{PortFault}
@@ -7,13 +8,14 @@ use Rattle.desk_ports.specs.declared.port_faults.PortFault.TheVariants as fault
 use Rattle.link_ports.specs.Traffic.{Traffic}
 use Rattle.link_ports.specs.LinkMarks.{LinkMarks}
 use Rattle.link_ports.specs.NetCounts.{gave_trouble, MayCountFailure}
-use Rattle.wire_messages.specs.declared.messages.Message.{Message}
+use Rattle.wire_fields.specs.declared.messages.Message.{Message}
 use Rattle.client_connection.specs.Giving.{GivesBackAny}
 use Rattle.admin_client.specs.Sending.{State, Sends, refusal_by}
 use Rattle.admin_client.specs.declared.refusals.AdminRefusal.{AdminRefusal}
 use Rattle.admin_client.specs.declared.refusals.AdminRefusal.TheVariants as refusal
 use Rattle.run_endings.specs.declared.endings.Ending.{Ending}
-use Rattle.run_endings.specs.declared.endings.Ending.TheVariants.{Done, Memory, Words, Line, Source, Sink, Disk, Net, Damaged, Reply, TooLong}
+use Rattle.run_endings.specs.declared.endings.Ending.TheVariants.{Done, Memory, Words, Line, Source, Sink, Disk, Net}
+use Rattle.run_endings.specs.declared.endings.Ending.TheVariants.{Damaged, Reply, TooLong}
 use Rattle.admin_runs.specs.AdminRun.{Exchange, ending_of, AreExchanged, EndsSending, IsUnanswered, IsCounted}
 
 by_trouble : (b : Bool) (count : ℕ) → MayCountFailure count (cond b (next_count count) count)
@@ -54,7 +56,8 @@ module _ {N L : Type 0} (link_faults : L → ℕ) (marks : L → LinkMarks) (tra
   given_none link old new none given = subst (λ (link : Option L). Given link old new) none given
 
   -- a message that is answered counts none
-  answered_counts : (message : Message) (replies : List Message) (old new : State N L) → Once message (Ok replies) old new
+  answered_counts : (message : Message) (replies : List Message) (old new : State N L)
+      → Once message (Ok replies) old new
       → faults new.dial ≡ faults old.dial
   answered_counts message replies old new sent =
       elim sent [
@@ -65,28 +68,35 @@ module _ {N L : Type 0} (link_faults : L → ℕ) (marks : L → LinkMarks) (tra
       ]
 
   all_answered : (exchanges : List Exchange) (old new : State N L)
-      → AreExchanged link_faults marks traffic faults dials given_back exchanges old new → faults new.dial ≡ faults old.dial
+      → AreExchanged link_faults marks traffic faults dials given_back exchanges old new
+      → faults new.dial ≡ faults old.dial
   all_answered [] old new same = ap (λ (state : State N L). faults state.dial) same
   all_answered (exchange ∷ exchanges) old new are =
       all_answered exchanges are.0 new are.2 ∙ answered_counts exchange.message exchange.replies old are.0 are.1
 
   -- one that is not counts one at most, with the link that is given back behind it
-  refused_may : (message : Message) (why : AdminRefusal) (old new : State N L) (after : N) → Once message (Err why) old new
+  refused_may : (message : Message) (why : AdminRefusal) (old new : State N L) (after : N)
+      → Once message (Err why) old new
       → Given new.link new.dial after → MayCountFailure (faults old.dial) (faults after)
   refused_may message why old new after sent given =
       elim sent [
         | Sends.too_long h ↦
-            then_may (faults old.dial) (faults new.dial) (faults after) (ap (λ (state : State N L). faults state.dial) h.same)
+            then_may (faults old.dial) (faults new.dial) (faults after)
+            (ap (λ (state : State N L). faults state.dial) h.same)
             (given_may new.link new.dial after given)
         | Sends.no_room h ↦
-            may_then (faults old.dial) (faults new.dial) (faults after) (ap faults (given_none new.link new.dial after h.link given))
+            may_then (faults old.dial) (faults new.dial) (faults after)
+            (ap faults (given_none new.link new.dial after h.link given))
             (given_may old.link old.dial new.dial h.gives)
         | Sends.no_dial fits h ↦
             let none : new.link ≡ None = ap (λ (state : State N L). state.link) h.same ∙ h.refused.was in
-            may_then (faults old.dial) (faults new.dial) (faults after) (ap faults (given_none new.link new.dial after none given))
-            (subst (λ count. MayCountFailure (faults old.dial) count) (sym h.refused.counted) (by_fault h.fault (faults old.dial)))
+            may_then (faults old.dial) (faults new.dial) (faults after)
+            (ap faults (given_none new.link new.dial after none given))
+            (subst (λ count. MayCountFailure (faults old.dial) count) (sym h.refused.counted)
+            (by_fault h.fault (faults old.dial)))
         | Sends.talks fits h ↦
-            may_then (faults old.dial) (faults new.dial) (faults after) (ap faults (given_none new.link new.dial after h.ends.0 given))
+            may_then (faults old.dial) (faults new.dial) (faults after)
+            (ap faults (given_none new.link new.dial after h.ends.0 given))
             (then_may (faults old.dial) (faults h.dial) (faults new.dial) h.begins.counted
             (given_may (Some h.link) h.dial new.dial h.ends.1.gives))
       ]
@@ -110,7 +120,8 @@ module _ {N L : Type 0} (link_faults : L → ℕ) (marks : L → LinkMarks) (tra
             ap faults (given_none new.link new.dial after none given)
             ∙ (h.refused.counted ∙ by_fault h.fault (faults old.dial) h.is)
         | Sends.talks fits h ↦
-            ap faults (given_none new.link new.dial after h.ends.0 given) ∙ (h.ends.1.counted ∙ ap next_count h.begins.counted)
+            ap faults (given_none new.link new.dial after h.ends.0 given)
+            ∙ (h.ends.1.counted ∙ ap next_count h.begins.counted)
       ]
     where
       by_fault : (fault : PortFault) (count : ℕ) → lost ≡ Err (refusal_by fault)
@@ -130,7 +141,8 @@ module _ {N L : Type 0} (link_faults : L → ℕ) (marks : L → LinkMarks) (tra
     quiet : client ≡ between → MayCountFailure before (faults after)
     quiet same =
         over (λ count. MayCountFailure count (faults after))
-        (then_may (faults between.dial) (faults client.dial) (faults after) (ap (λ (state : State N L). faults state.dial) same)
+        (then_may (faults between.dial) (faults client.dial) (faults after)
+        (ap (λ (state : State N L). faults state.dial) same)
         (given_may client.link client.dial after given))
 
     unanswered : (ending : Ending) (last : List Message)
@@ -146,7 +158,8 @@ module _ {N L : Type 0} (link_faults : L → ℕ) (marks : L → LinkMarks) (tra
     counts Net last none =
         over (λ count. faults after ≡ next_count count)
         (lost_counts none.message between client after
-        (subst (λ why. Once none.message (Err why) between client) (is_unavailable none.why none.ending_is) none.sent) given)
+        (subst (λ why. Once none.message (Err why) between client)
+        (is_unavailable none.why none.ending_is) none.sent) given)
     counts Done last none = quiet none.1
     counts (Line number) last none = quiet none.1
     counts Source last none = quiet none.1

@@ -17,7 +17,8 @@ module _ {N L : Type 0} (link_faults : L → ℕ) (marks : L → LinkMarks) (tra
     (sink sink_after : SinkSeen) (before between after : N) (first last : Kept L) where
   abbrev pub Sent : Kept L → Type 0
   Sent first =
-      SendsAll (Talks link_faults marks traffic faults dials given_back (with_dial before first) (with_dial between last) sink sink_after)
+      SendsAll (Talks link_faults marks traffic faults dials given_back (with_dial before first)
+      (with_dial between last) sink sink_after)
       source.left source_after.left ending
 
   module _ (sent : Sent first) (is_first : first ≡ record { link = None; sequence = 0 })

@@ -1,21 +1,23 @@
 -- A whole script, from its lines.
-use Rattle.std.proofs.Common.{◌≡◌, ℕ, List, [], ◌∷◌, ◌++◌, Option, Result, Ok, Err, inl, inr, refl, sym, ap, ◌∙◌, subst, append-nil}
+use Rattle.std.proofs.Common.{◌≡◌, ℕ, List, [], ◌∷◌, ◌++◌, Option, Result, Ok, Err, inl, inr, refl, sym, ap, ◌∙◌, subst}
+use Rattle.std.proofs.Common.{append-nil}
 use Rattle.text_lines.specs.LineReader.{LineReading, HandsOut, Ends, EndsReading}
 use Rattle.line_script.specs.Block.{Block}
 use Rattle.line_script.specs.Turn.{is_in_block}
-use Rattle.line_script.specs.declared.places.Place.TheVariants.{Admin}
+use Rattle.script_words.specs.declared.places.Place.TheVariants.{Admin}
 use Rattle.line_script.specs.declared.steps.Step.{Step}
 use Rattle.link_ports.specs.Traffic.{Traffic}
 use Rattle.link_ports.specs.LinkMarks.{LinkMarks}
-use Rattle.wire_messages.specs.declared.messages.Message.{Message}
+use Rattle.wire_fields.specs.declared.messages.Message.{Message}
 use Rattle.admin_client.specs.Sending.{State}
 use Rattle.run_endings.specs.Outside.{SinkSeen}
 use Rattle.run_endings.specs.declared.endings.Ending.{Ending}
 use Rattle.run_endings.specs.declared.endings.Ending.TheVariants.{Done, Memory, Line, Source, Sink, Net, Reply, TooLong}
-use Rattle.script_reading.specs.NextLine.{ReadsNext}
-use Rattle.script_reading.specs.Reading.{Reads, Goes, Has, ReadsLines}
-use Rattle.script_reading.proofs.Going.{goes_on}
-use Rattle.script_reading.proofs.Ending.{ends_unread, ends_now, ends_by_memory, ends_before_line, ends_by_source, ends_past_limit, ends_at_line, ends_done, ends_in_block}
+use Rattle.script_replies.specs.NextLine.{ReadsNext}
+use Rattle.script_replies.specs.Reading.{Reads, Goes, Has, ReadsLines}
+use Rattle.script_replies.proofs.Going.{goes_on}
+use Rattle.script_replies.proofs.Ending.{ends_unread, ends_now, ends_by_memory, ends_before_line, ends_by_source}
+use Rattle.script_replies.proofs.Ending.{ends_past_limit, ends_at_line, ends_done, ends_in_block}
 use Rattle.admin_runs.specs.AdminRun.{HasRead, messages_of}
 use Rattle.admin_runs.specs.parts.Talk.{Talks, IsStop, ending_by}
 use Rattle.admin_runs.specs.parts.Line.{TakesLine, StopsAtLine, StopsNext}
@@ -55,7 +57,8 @@ module _ {N L : Type 0} (link_faults : L → ℕ) (marks : L → LinkMarks) (tra
   Sends old new before after steps = Talk old new before after (messages_of steps) Done
 
   -- no memory was found to begin
-  pub sends_nothing : (old : State N L) (before : SinkSeen) (left : Option (List ℕ)) → SendsAll (Talk old old before before) left left Memory
+  pub sends_nothing : (old : State N L) (before : SinkSeen) (left : Option (List ℕ))
+      → SendsAll (Talk old old before before) left left Memory
   sends_nothing old before left =
       let has = ends_unread Admin left in
       record {
@@ -82,20 +85,23 @@ module _ {N L : Type 0} (link_faults : L → ℕ) (marks : L → LinkMarks) (tra
         (talk_then link_faults marks traffic faults dials given_back old between new before mid after
         (messages_of p.steps) (messages_of (step ∷ [])) ending goes.1 talks)
 
-    none_then : (ending : Ending) → Talk between new mid after [] ending → Talk old new before after (messages_of p.steps) ending
+    none_then : (ending : Ending) → Talk between new mid after [] ending
+        → Talk old new before after (messages_of p.steps) ending
     none_then ending talks =
         subst (λ messages. Talk old new before after messages ending) (append-nil (messages_of p.steps))
         (talk_then link_faults marks traffic faults dials given_back old between new before mid after
         (messages_of p.steps) [] ending goes.1 talks)
 
     -- one more line
-    pub sends_next : HandsOut left_now left_after reading reading_after → TakesLine (Talk between new mid after) block next reading_after.line Done
+    pub sends_next : HandsOut left_now left_after reading reading_after
+        → TakesLine (Talk between new mid after) block next reading_after.line Done
         → Goes Admin left left_after next reading_after (Sends old new before after)
     sends_next out takes =
         goes_on p takes.step out ends takes.reads (Sends old new before after) (step_then takes.step Done takes.talks)
 
     all_of : (steps : List Step) (ending : Ending) → Has left left_after (λ input rest. HasRead ending input rest steps)
-        → Talk old new before after (messages_of steps) ending → SendsAll (Talk old new before after) left left_after ending
+        → Talk old new before after (messages_of steps) ending
+        → SendsAll (Talk old new before after) left left_after ending
     all_of steps ending has talks =
         record { input = has.0; rest = has.1; steps = steps; had = has.2; read = has.3; talks = talks }
 
@@ -113,16 +119,19 @@ module _ {N L : Type 0} (link_faults : L → ℕ) (marks : L → LinkMarks) (tra
               (all_of p.steps Memory (ends_before_line p out)
               (none_then Memory (subst (λ ending. Talk between new mid after [] ending) is talks)))
           | StopsAtLine.stopped stop takes ↦
-              let on = goes_on p takes.step out ends takes.reads (λ steps. Talk old new before after (messages_of steps) ending)
+              let on = goes_on p takes.step out ends takes.reads
+              (λ steps. Talk old new before after (messages_of steps) ending)
               (step_then takes.step ending takes.talks) in
               all_of on.0.steps ending (by_stop left left_after on.0.steps ending stop (ends_now on.0)) on.1
         ]
 
     -- the run ends before the next line, or at it
-    pub sends_stopped : (ending : Ending) → StopsNext (Talk between new mid after) block next left_now left_after reading reading_after ending
+    pub sends_stopped : (ending : Ending)
+        → StopsNext (Talk between new mid after) block next left_now left_after reading reading_after ending
         → SendsAll (Talk old new before after) left left_after ending
     sends_stopped ending (inl none) =
-        all_of p.steps ending (by_next left left_now left_after block reading reading_after p ends ending none.0) (none_then ending none.1)
+        all_of p.steps ending (by_next left left_now left_after block reading reading_after p ends ending none.0)
+        (none_then ending none.1)
     sends_stopped ending (inr line) = at_line ending line.0 line.1
 
     -- no line is left; what a person is told then is no answer

@@ -1,5 +1,6 @@
 -- What is sent and written, part by part.
-use Rattle.std.proofs.Common.{◌≡◌, inl, inr, ℕ, List, [], ◌∷◌, ◌++◌, take, map, Option, None, Result, Ok, Err, refl, sym, ap, ◌∙◌, subst, append_assoc, append-nil}
+use Rattle.std.proofs.Common.{◌≡◌, inl, inr, ℕ, List, [], ◌∷◌, ◌++◌, take, map, Option, None, Result, Ok, Err, refl}
+use Rattle.std.proofs.Common.{sym, ap, ◌∙◌, subst, append_assoc, append-nil}
 use Rattle.std.specs.Option.{option_to_list}
 use Rattle.desk_ports.specs.Faults.{next_count}
 use Rattle.desk_ports.specs.Content.{Appended}
@@ -8,19 +9,21 @@ use Rattle.link_ports.specs.Traffic.{Traffic}
 use Rattle.link_ports.specs.LinkMarks.{LinkMarks}
 use Rattle.text_lines.specs.LineReader.{LineReading}
 use Rattle.line_script.specs.declared.steps.Step.{Step}
-use Rattle.script_reading.specs.NextLine.{ReadsNext}
-use Rattle.wire_messages.specs.declared.messages.Message.{Message}
+use Rattle.script_replies.specs.NextLine.{ReadsNext}
+use Rattle.wire_fields.specs.declared.messages.Message.{Message}
 use Rattle.admin_client.specs.Sending.{State}
 use Rattle.admin_client.specs.declared.refusals.AdminRefusal.{AdminRefusal}
 use Rattle.admin_client.specs.declared.refusals.AdminRefusal.TheVariants as refusal
 use Rattle.run_endings.specs.Outside.{SinkSeen}
 use Rattle.run_endings.specs.Saying.{Said, silence, IsCut, AreWritten, WritesAnswers}
 use Rattle.run_endings.specs.declared.endings.Ending.{Ending}
-use Rattle.run_endings.specs.declared.endings.Ending.TheVariants.{Done, Memory, Words, Line, Source, Sink, Disk, Net, Damaged, Reply, TooLong}
+use Rattle.run_endings.specs.declared.endings.Ending.TheVariants.{Done, Memory, Words, Line, Source, Sink, Disk, Net}
+use Rattle.run_endings.specs.declared.endings.Ending.TheVariants.{Damaged, Reply, TooLong}
 use Rattle.run_endings.proofs.Trying.{IsCut-take}
 use Rattle.admin_runs.specs.StepMessage.{message_for}
 use Rattle.admin_runs.specs.ReplyLine.{replies_text}
-use Rattle.admin_runs.specs.AdminRun.{Exchange, text_of, messages_of, ending_of, AreInTurn, SendsOnce, AreExchanged, EndsSending, IsUnanswered}
+use Rattle.admin_runs.specs.AdminRun.{Exchange, text_of, messages_of, ending_of, AreInTurn, SendsOnce, AreExchanged}
+use Rattle.admin_runs.specs.AdminRun.{EndsSending, IsUnanswered}
 use Rattle.admin_runs.specs.parts.Talk.{Talks, WritesText, IsStop, SendsMessage}
 use Rattle.admin_runs.proofs.Turns.{texts_then, mapped_then, in_turn_none, in_turn_one, in_turn_then}
 
@@ -42,7 +45,8 @@ are_written_then Sink faults between after front said same part =
     (part.0 ∙ ap next_count same, cut_behind front said.written said.due part.1)
 are_written_then ending faults between after front said same all = (all.0 ∙ same, ap (λ bytes. front ++ bytes) all.1)
 
-writes_then : (ending : Ending) (first second : Said) (before between after : SinkSeen) → WritesAnswers Done first before between
+writes_then : (ending : Ending) (first second : Said) (before between after : SinkSeen)
+    → WritesAnswers Done first before between
     → WritesAnswers ending second between after
     → WritesAnswers ending (record { due = first.due ++ second.due; written = first.due ++ second.written }) before after
 writes_then ending first second before between after one two =
@@ -63,7 +67,8 @@ IsQuiet (Line number) = Unit {0}
 IsQuiet Source = Unit {0}
 IsQuiet ending = ⊥
 
-written_none : (ending : Ending) (faults after : ℕ) → IsQuiet ending → after ≡ faults → AreWritten ending faults after silence
+written_none : (ending : Ending) (faults after : ℕ) → IsQuiet ending → after ≡ faults
+    → AreWritten ending faults after silence
 written_none Memory faults after quiet same = inl (same, refl)
 written_none Done faults after quiet same = (same, refl)
 written_none (Line number) faults after quiet same = (same, refl)
@@ -85,7 +90,8 @@ module _ {N L : Type 0} (link_faults : L → ℕ) (marks : L → LinkMarks) (tra
   abbrev Once : Message → Result (List Message) AdminRefusal → State N L → State N L → Type 0
   Once message result old new = SendsOnce link_faults marks traffic faults dials given_back message result old new
 
-  exchanged_then : (first second : List Exchange) (old between new : State N L) → Are first old between → Are second between new
+  exchanged_then : (first second : List Exchange) (old between new : State N L) → Are first old between
+      → Are second between new
       → Are (first ++ second) old new
   exchanged_then [] second old between new one two = subst (λ (state : State N L). Are second state new) one two
   exchanged_then (exchange ∷ first) second old between new one two =
@@ -119,8 +125,10 @@ module _ {N L : Type 0} (link_faults : L → ℕ) (marks : L → LinkMarks) (tra
       }
 
   -- no further line was read
-  pub talk_unread : (left left_after : Option (List ℕ)) (reading reading_after : LineReading) (ending : Ending) (state : State N L)
-      (before after : SinkSeen) → ReadsNext left left_after reading reading_after (Err ending) → after.taken ≡ before.taken
+  pub talk_unread : (left left_after : Option (List ℕ)) (reading reading_after : LineReading) (ending : Ending)
+      (state : State N L)
+      (before after : SinkSeen) → ReadsNext left left_after reading reading_after (Err ending)
+      → after.taken ≡ before.taken
       → after.faults ≡ before.faults → Talk state state before after [] ending
   talk_unread left left_after reading reading_after ending state before after next taken count =
       talk_none ending state state before after (quiet_next ending next) refl taken count
@@ -132,7 +140,8 @@ module _ {N L : Type 0} (link_faults : L → ℕ) (marks : L → LinkMarks) (tra
       quiet_next ending next = absurd next
 
   -- one part behind another
-  pub talk_then : (old between new : State N L) (before mid after : SinkSeen) (first second : List Message) (ending : Ending)
+  pub talk_then : (old between new : State N L) (before mid after : SinkSeen) (first second : List Message)
+      (ending : Ending)
       → Talk old between before mid first Done → Talk between new mid after second ending
       → Talk old new before after (first ++ second) ending
   talk_then old between new before mid after first second ending one two =
@@ -239,7 +248,8 @@ module _ {N L : Type 0} (link_faults : L → ℕ) (marks : L → LinkMarks) (tra
   -- it had no answer
   module _ (message : Message) (old new : State N L) (before after : SinkSeen) (taken : after.taken ≡ before.taken)
       (count : after.faults ≡ before.faults) where
-    stopped : (ending : Ending) → Ends ending (message ∷ []) old new → AreWritten ending before.faults after.faults silence
+    stopped : (ending : Ending) → Ends ending (message ∷ []) old new
+        → AreWritten ending before.faults after.faults silence
         → Talk old new before after (message ∷ []) ending
     stopped ending ends written =
         record {
@@ -265,12 +275,15 @@ module _ {N L : Type 0} (link_faults : L → ℕ) (marks : L → LinkMarks) (tra
     by_refusal : (why : AdminRefusal) → Once message (Err why) old new
         → IsStop (ending_of why) × Talk old new before after (message ∷ []) (ending_of why)
     by_refusal refusal.Unavailable sent = (tt, stopped Net (unanswered refusal.Unavailable sent) (count, refl))
-    by_refusal (refusal.BadReply fault) sent = (tt, stopped Reply (unanswered (refusal.BadReply fault) sent) (count, refl))
-    by_refusal (refusal.TooLong size) sent = (tt, stopped (TooLong size) (unanswered (refusal.TooLong size) sent) (count, refl))
+    by_refusal (refusal.BadReply fault) sent =
+        (tt, stopped Reply (unanswered (refusal.BadReply fault) sent) (count, refl))
+    by_refusal (refusal.TooLong size) sent =
+        (tt, stopped (TooLong size) (unanswered (refusal.TooLong size) sent) (count, refl))
     by_refusal (refusal.Memory error) sent =
         (tt, stopped Memory (inl (unanswered (refusal.Memory error) sent)) (inl (count, refl)))
 
-    pub talk_unanswered : (why : AdminRefusal) (ending : Ending) → ending ≡ ending_of why → Once message (Err why) old new
+    pub talk_unanswered : (why : AdminRefusal) (ending : Ending) → ending ≡ ending_of why
+        → Once message (Err why) old new
         → SendsMessage (Talk old new before after) message (Err ending)
     talk_unanswered why ending is sent =
         subst (λ ending. IsStop ending × Talk old new before after (message ∷ []) ending) (sym is) (by_refusal why sent)
@@ -278,7 +291,8 @@ module _ {N L : Type 0} (link_faults : L → ℕ) (marks : L → LinkMarks) (tra
 -- ---- one step
 
 -- it has no message
-pub step_silent : (Talk : List Message → Ending → Type 0) (step : Step) (found : Option Message) → found ≡ message_for step → found ≡ None
+pub step_silent : (Talk : List Message → Ending → Type 0) (step : Step) (found : Option Message)
+    → found ≡ message_for step → found ≡ None
     → Talk [] Done → Talk (messages_of (step ∷ [])) Done
 step_silent Talk step found is none talks =
     subst (λ messages. Talk messages Done) (ap (λ found. option_to_list found ++ []) (sym none ∙ is)) talks

@@ -1,5 +1,6 @@
 -- Lists of exchanges: their messages, their texts, and how much of these is written in turn.
-use Rattle.std.proofs.Common.{◌≡◌, ◌≤◌, ℕ, List, [], ◌∷◌, ◌++◌, length, map, refl, sym, ap, ◌∙◌, arith, append_assoc, length-append}
+use Rattle.std.proofs.Common.{◌≡◌, ◌≤◌, ℕ, List, [], ◌∷◌, ◌++◌, length, map, refl, sym, ap, ◌∙◌, arith, append_assoc}
+use Rattle.std.proofs.Common.{length-append}
 use Rattle.std.specs.Option.{option_to_list}
 use Rattle.line_script.specs.declared.steps.Step.{Step}
 use Rattle.admin_runs.specs.StepMessage.{message_for}
@@ -34,7 +35,8 @@ none_behind written (exchange ∷ front) last same = cc
 pub in_turn_none : (written : List ℕ) → AreInTurn [] written
 in_turn_none written = λ front last same. none_behind written front last (sym same)
 
-one_behind : (written : List ℕ) (exchange : Exchange) (front : List Exchange) (last : Exchange) → exchange ∷ [] ≡ front ++ last ∷ []
+one_behind : (written : List ℕ) (exchange : Exchange) (front : List Exchange) (last : Exchange)
+    → exchange ∷ [] ≡ front ++ last ∷ []
     → length (texts_of front) ≤ length written
 one_behind written exchange [] last same = omega arith
 one_behind written exchange (other ∷ front) last same =

@@ -6,10 +6,10 @@ use Rattle.desk_ports.specs.Faults.{next_count}
 use Rattle.link_ports.specs.Traffic.{Traffic}
 use Rattle.link_ports.specs.LinkMarks.{LinkMarks}
 use Rattle.link_ports.specs.NetCounts.{MayCountFailure}
-use Rattle.line_script.specs.declared.places.Place.TheVariants.{Admin}
+use Rattle.script_words.specs.declared.places.Place.TheVariants.{Admin}
 use Rattle.line_script.specs.declared.steps.Step.{Step}
-use Rattle.script_reading.specs.Reading.{ReadsLines, ReadsAllLines, ReadsWhole, MeetsWrongLine}
-use Rattle.wire_messages.specs.declared.messages.Message.{Message}
+use Rattle.script_replies.specs.Reading.{ReadsLines, ReadsAllLines, ReadsWhole, MeetsWrongLine}
+use Rattle.wire_fields.specs.declared.messages.Message.{Message}
 use Rattle.client_connection.specs.Giving.{GivesBackAny}
 use Rattle.admin_client.specs.Sending.{State, Sends}
 use Rattle.admin_client.specs.declared.refusals.AdminRefusal.{AdminRefusal}
@@ -75,7 +75,8 @@ module _ {N L : Type 0} (link_faults : L → ℕ) (marks : L → LinkMarks) (tra
   abbrev pub AreExchanged : List Exchange → State N L → State N L → Type 0
   AreExchanged [] old new = new ≡ old
   AreExchanged (exchange ∷ exchanges) old new =
-      (between : State N L) × SendsOnce exchange.message (Ok exchange.replies) old between × AreExchanged exchanges between new
+      (between : State N L) × SendsOnce exchange.message (Ok exchange.replies) old between
+      × AreExchanged exchanges between new
 
   -- One more message was due behind these, and had no answer.
   pub record IsUnanswered (ending : Ending) (last : List Message) (old new : State N L) : Type 0 where
@@ -105,8 +106,8 @@ module _ {N L : Type 0} (link_faults : L → ℕ) (marks : L → LinkMarks) (tra
   EndsSending Memory last old new = IsUnanswered Memory last old new ⊎ (IsUnsaid last old new ⊎ IsNone last old new)
   EndsSending ending last old new = IsUnanswered ending last old new
 
-  -- The messages of the steps that were read: each was sent once and answered, in order, but for a last one. The answers
-  -- are due.
+  -- The messages of the steps that were read: each was sent once and answered, in order, but for a last one. The
+  -- answers are due.
   pub record SendsScript (said : Said) (ending : Ending) (source source_after : SourceSeen) (old new : State N L) : Type 0 where
     pub input : List ℕ
     pub rest : List ℕ
@@ -122,14 +123,16 @@ module _ {N L : Type 0} (link_faults : L → ℕ) (marks : L → LinkMarks) (tra
     pub due : said.due ≡ texts_of answered
     pub in_turn : AreInTurn answered said.written
 
-  -- The script was sent by a client without a link that numbers its first message 0, whose link was given back at the end.
+  -- The script was sent by a client without a link that numbers its first message 0, whose link was given back at the
+  -- end.
   pub record RunsAdmin (said : Said) (ending : Ending) (source source_after : SourceSeen) (before after : N) : Type 0 where
     pub client : State N L
-    pub script : SendsScript said ending source source_after (record { dial = before; link = None; sequence = 0 }) client
+    pub script : SendsScript said ending source source_after
+        (record { dial = before; link = None; sequence = 0 }) client
     pub given : GivesBackAny faults dials given_back link_faults marks client.link client.dial after
 
--- The count of the dialler behind a run: one dial failed, or one link, where the service was out of reach. Else none did,
--- unless a link that was given back had ended or failed.
+-- The count of the dialler behind a run: one dial failed, or one link, where the service was out of reach. Else none
+-- did, unless a link that was given back had ended or failed.
 abbrev pub IsCounted : Ending → ℕ → ℕ → Type 0
 IsCounted Net before after = after ≡ next_count before
 IsCounted ending before after = MayCountFailure before after

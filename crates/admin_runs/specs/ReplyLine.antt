@@ -3,10 +3,12 @@ use Rattle.std.specs.Prelude.{ℕ, Bool, true, false, if◌then◌else◌, List,
 use Rattle.std.specs.List.{flat_map}
 use Rattle.bucket_eval.specs.declared.answers.Row.{Row}
 use Rattle.bucket_eval.specs.declared.answers.Answer.{Answer}
-use Rattle.line_script.specs.Answers.{accepted_text, erased_text, by_policy_text, by_fallback_text, rows_text, refusal_text, store_fault_text, store_damaged_text, ruling}
+use Rattle.line_answers.specs.Answers.{accepted_text, erased_text, by_policy_text, by_fallback_text, rows_text}
+use Rattle.line_answers.specs.Answers.{refusal_text, store_fault_text, store_damaged_text, ruling}
 use Rattle.script_replies.specs.Reply.{policy_text}
-use Rattle.wire_messages.specs.declared.messages.Message.{Message}
-use Rattle.wire_messages.specs.declared.messages.Message.TheVariants.{Erase, Done, Refused, StoreFault, StoreDamaged, Judged, ListRow, ListEnd}
+use Rattle.wire_fields.specs.declared.messages.Message.{Message}
+use Rattle.wire_fields.specs.declared.messages.Message.TheVariants.{Erase, Done, Refused, StoreFault, StoreDamaged}
+use Rattle.wire_fields.specs.declared.messages.Message.TheVariants.{Judged, ListRow, ListEnd}
 
 -- what is accepted tells how many policies it erased
 abbrev pub erases : Message → Bool

@@ -1,7 +1,7 @@
 // A script that is sent to a service, line by line.
 ghost use Rattle.std.specs.Prelude.{◌≡◌};
 ghost use Rattle.line_script.specs.Block.{outside};
-ghost use Rattle.line_script.specs.declared.places.Place.TheVariants.{Admin};
+ghost use Rattle.script_words.specs.declared.places.Place.TheVariants.{Admin};
 ghost use Rattle.admin_runs.specs.AdminRun as words;
 
 use crate::reply_lines::put_replies;
@@ -12,8 +12,7 @@ use line_script::{LineRefusal, Place, Reader, Step};
 use link_ports::Dial;
 use run_endings::{Ending, note_text};
 use script_notes::note_refusal;
-use script_reading::read_next_line;
-use script_replies::note_script_line;
+use script_replies::{note_script_line, read_next_line};
 use std::alloc::Global;
 use text_lines::LineReader;
 use wire_messages::Message;
@@ -30,7 +29,7 @@ impl AdminScript {
     ghost use Rattle.admin_client.specs.Sending.{with_dial};
     ghost use Rattle.run_endings.specs.Outside.{sink_seen};
     ghost use Rattle.text_lines.specs.LineReader.{EndsReading};
-    ghost use Rattle.script_reading.specs.NextLine.{counts_source};
+    ghost use Rattle.script_replies.specs.NextLine.{counts_source};
     ghost use Rattle.admin_runs.specs.ReplyLine.{replies_text};
     ghost use Rattle.admin_runs.specs.parts.Talk.{Talks, WritesText, SendsMessage, SendsStep};
     ghost use Rattle.admin_runs.specs.parts.Line.{SendsLine, Turns};

@@ -1,12 +1,12 @@
 // The lines of the replies to a message.
 ghost use Rattle.std.specs.Prelude.{◌≡◌, ◌++◌, if◌then◌else◌, OnOk};
-ghost use Rattle.line_script.specs.Answers.{accepted_text, erased_text};
+ghost use Rattle.line_answers.specs.Answers.{accepted_text, erased_text};
 ghost use Rattle.script_replies.specs.Reply.{policy_text};
 ghost use Rattle.admin_runs.specs.ReplyLine.{verdict_by, reply_text, replies_text, erases};
 
 use cynara_keys::Policy;
 use desk_ports::Bytes;
-use line_script::{LineAnswer, print};
+use line_answers::{LineAnswer, print};
 use script_replies::print_refusal;
 use std::alloc::AllocError;
 use wire_messages::{Message, PackedVerdict};
@@ -70,7 +70,8 @@ fn put_done(erases: bool, commit: u64, erased: u32, out: &mut Bytes) -> Result<(
 }
 
 fn put_verdict(verdict: &PackedVerdict, out: &mut Bytes) -> Result<(), AllocError>
-    ensures { OnOk result (out.new ≡ out.old ++ verdict_by verdict.now.commit verdict.now.answer verdict.now.answer.cause.row) }
+    ensures { OnOk result (out.new ≡ out.old
+        ++ verdict_by verdict.now.commit verdict.now.answer verdict.now.answer.cause.row) }
 {
     match verdict.row() {
         Some(row) => {

@@ -5,7 +5,7 @@ ghost use Rattle.run_endings.specs.Outside.{source_seen, sink_seen};
 ghost use Rattle.run_endings.specs.Saying.{Said, WritesAnswers};
 ghost use Rattle.admin_client.specs.Sending.{with_dial};
 ghost use Rattle.script_replies.specs.Limits.{most_script_bytes};
-ghost use Rattle.script_reading.specs.NextLine.{counts_source};
+ghost use Rattle.script_replies.specs.NextLine.{counts_source};
 ghost use Rattle.admin_runs.specs.AdminRun.{RunsAdmin, IsCounted};
 ghost use Rattle.admin_runs.specs.parts.Talk as words;
 ghost use Rattle.admin_runs.specs.parts.Talk.{Talks};
@@ -22,8 +22,9 @@ use std::alloc::Global;
 use text_lines::LineReader;
 
 /// Sends the script of the source to the service, each step as one message, and writes what comes back. A block is one
-/// message, which its last line sends. Nothing is sent behind a line outside the grammar, nor behind a message without an
-/// answer. The answer to each step is written before the next line is read. The link is given back at the end. It may wait.
+/// message, which its last line sends. Nothing is sent behind a line outside the grammar, nor behind a message without
+/// an answer. The answer to each step is written before the next line is read. The link is given back at the end. It
+/// may wait.
 pub fn run_admin<S: Source, K: Sink, N: Dial>(
     alloc: Global,
     source: &mut S,

@@ -10,16 +10,16 @@ use Rattle.cynara_keys.specs.declared.results.Kind.{Kind}
 use Rattle.agent_table.specs.declared.table.Asked.{Asked}
 use Rattle.agent_table.specs.declared.refusals.RegisterRefusal.{RegisterRefusal}
 use Rattle.agent_table.specs.declared.refusals.RegisterRefusal.TheVariants.{Stopped as NoneComes, Taken as KindTaken, Full, Memory as NoRoom}
-use Rattle.wire_messages.specs.Frame.{spelling}
-use Rattle.wire_messages.specs.Message.{operation}
-use Rattle.wire_messages.specs.Operation.{number_of}
-use Rattle.wire_messages.specs.Stream.{Hears, first_of}
-use Rattle.wire_messages.specs.declared.messages.Framed.{Framed}
-use Rattle.wire_messages.specs.declared.messages.Message.TheVariants.{Register}
-use Rattle.wire_messages.specs.declared.operations.Heard.TheVariants.{AtAgent}
-use Rattle.wire_messages.specs.declared.refusals.WireRefusal.TheVariants.{TooShort, TooLong, BadOperation, BadField, Trailing}
-use Rattle.wire_messages.specs.declared.refusals.WireRefusal.TheVariants.{Memory as NoMemory}
-use Rattle.wire_messages.proofs.Hearings.{heard_once}
+use Rattle.wire_reading.specs.Frame.{spelling}
+use Rattle.wire_fields.specs.Message.{operation}
+use Rattle.wire_fields.specs.Operation.{number_of}
+use Rattle.wire_reading.specs.Stream.{Hears, first_of}
+use Rattle.wire_fields.specs.declared.messages.Framed.{Framed}
+use Rattle.wire_fields.specs.declared.messages.Message.TheVariants.{Register}
+use Rattle.wire_fields.specs.declared.operations.Heard.TheVariants.{AtAgent}
+use Rattle.wire_fields.specs.declared.refusals.WireRefusal.TheVariants.{TooShort, TooLong, BadOperation, BadField, Trailing}
+use Rattle.wire_fields.specs.declared.refusals.WireRefusal.TheVariants.{Memory as NoMemory}
+use Rattle.wire_reading.proofs.Hearings.{heard_once}
 use Rattle.server_hall.specs.Tally.{Tally, after_call, after_calls, after_join, after_part, stops_after_ask, stops_after_join}
 use Rattle.server_hall.specs.Tally.{stops_after_next}
 use Rattle.server_hall.specs.declared.calls.HallCall.{HallCall}

@@ -1,10 +1,10 @@
 -- A frame of an agent is a registration or an answer.
 use Rattle.std.proofs.Common.{◌≡◌, Some, refl}
-use Rattle.wire_messages.specs.Operation.{number_of, operation_of}
-use Rattle.wire_messages.specs.Message.{operation}
-use Rattle.wire_messages.specs.declared.messages.Message.{Message}
-use Rattle.wire_messages.specs.declared.messages.Message.TheVariants as m
-use Rattle.wire_messages.specs.declared.operations.Heard.TheVariants.{AtAgent}
+use Rattle.wire_fields.specs.Operation.{number_of, operation_of}
+use Rattle.wire_fields.specs.Message.{operation}
+use Rattle.wire_fields.specs.declared.messages.Message.{Message}
+use Rattle.wire_fields.specs.declared.messages.Message.TheVariants as m
+use Rattle.wire_fields.specs.declared.operations.Heard.TheVariants.{AtAgent}
 use Rattle.agent_door.specs.Frame.{IsNoRegistration, IsNoAnswer}
 
 abbrev pub IsKnown : Message → Type 0

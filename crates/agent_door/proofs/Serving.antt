@@ -11,14 +11,14 @@ use Rattle.link_ports.specs.LinkMarks.{LinkMarks}
 use Rattle.cynara_keys.specs.declared.results.Kind.{Kind}
 use Rattle.agent_table.specs.declared.refusals.AnswerRefusal.{AnswerRefusal}
 use Rattle.agent_table.specs.declared.table.Asked.{Asked}
-use Rattle.wire_messages.specs.Frame.{spelling}
-use Rattle.wire_messages.specs.Stream.{Feeding, Hears, BeginsWrong, IsOpen}
-use Rattle.wire_messages.specs.declared.messages.Framed.{Framed}
-use Rattle.wire_messages.specs.declared.operations.Heard.{Heard}
-use Rattle.wire_messages.specs.declared.operations.Heard.TheVariants.{AtAgent}
-use Rattle.wire_messages.specs.declared.refusals.WireRefusal.{WireRefusal}
-use Rattle.wire_messages.specs.declared.refusals.WireRefusal.TheVariants.{TooShort, TooLong, BadOperation, BadField, Trailing}
-use Rattle.wire_messages.specs.declared.refusals.WireRefusal.TheVariants.{Memory as NoMemory}
+use Rattle.wire_reading.specs.Frame.{spelling}
+use Rattle.wire_reading.specs.Stream.{Feeding, Hears, BeginsWrong, IsOpen}
+use Rattle.wire_fields.specs.declared.messages.Framed.{Framed}
+use Rattle.wire_fields.specs.declared.operations.Heard.{Heard}
+use Rattle.wire_fields.specs.declared.operations.Heard.TheVariants.{AtAgent}
+use Rattle.wire_fields.specs.declared.refusals.WireRefusal.{WireRefusal}
+use Rattle.wire_fields.specs.declared.refusals.WireRefusal.TheVariants.{TooShort, TooLong, BadOperation, BadField, Trailing}
+use Rattle.wire_fields.specs.declared.refusals.WireRefusal.TheVariants.{Memory as NoMemory}
 use Rattle.server_hall.specs.Tally.{after_call, after_calls}
 use Rattle.server_hall.specs.Told.{AppendsCalls}
 use Rattle.server_hall.specs.declared.calls.HallCall.{HallCall}

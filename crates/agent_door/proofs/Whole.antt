@@ -5,12 +5,12 @@ use Rattle.link_ports.specs.Traffic.{Traffic}
 use Rattle.cynara_keys.specs.declared.results.Kind.{Kind}
 use Rattle.agent_table.specs.declared.refusals.RegisterRefusal.{RegisterRefusal}
 use Rattle.agent_table.specs.declared.refusals.RegisterRefusal.TheVariants.{Taken as KindTaken, Full}
-use Rattle.wire_messages.specs.Frame.{spelling}
-use Rattle.wire_messages.specs.Stream.{Feeding, Hears, BeginsWrong, IsOpen, unfed}
-use Rattle.wire_messages.specs.declared.messages.Framed.{Framed}
-use Rattle.wire_messages.specs.declared.operations.Heard.{Heard}
-use Rattle.wire_messages.specs.declared.operations.Heard.TheVariants.{AtAgent}
-use Rattle.wire_messages.specs.declared.refusals.WireRefusal.TheVariants.{BadOperation}
+use Rattle.wire_reading.specs.Frame.{spelling}
+use Rattle.wire_reading.specs.Stream.{Feeding, Hears, BeginsWrong, IsOpen, unfed}
+use Rattle.wire_fields.specs.declared.messages.Framed.{Framed}
+use Rattle.wire_fields.specs.declared.operations.Heard.{Heard}
+use Rattle.wire_fields.specs.declared.operations.Heard.TheVariants.{AtAgent}
+use Rattle.wire_fields.specs.declared.refusals.WireRefusal.TheVariants.{BadOperation}
 use Rattle.server_hall.specs.Tally.{Tally, after_join}
 use Rattle.server_hall.specs.Told.{AppendsCalls}
 use Rattle.server_hall.specs.declared.calls.HallCall.{HallCall}

@@ -3,10 +3,10 @@ use Rattle.std.specs.Prelude.{◌≡◌, ◌<◌, ℕ, true, List, [], ◌∷◌
 use Rattle.std.specs.List.{AllByRecursion, flat_map}
 use Rattle.desk_ports.specs.Faults.{last_count}
 use Rattle.link_ports.specs.Traffic.{Traffic}
-use Rattle.wire_messages.specs.Frame.{spelling}
-use Rattle.wire_messages.specs.Stream.{Hears}
-use Rattle.wire_messages.specs.declared.messages.Framed.{Framed}
-use Rattle.wire_messages.specs.declared.operations.Heard.TheVariants.{AtAgent}
+use Rattle.wire_reading.specs.Frame.{spelling}
+use Rattle.wire_reading.specs.Stream.{Hears}
+use Rattle.wire_fields.specs.declared.messages.Framed.{Framed}
+use Rattle.wire_fields.specs.declared.operations.Heard.TheVariants.{AtAgent}
 use Rattle.agent_door.specs.Frame.{register_frame, registered_frame, taken_frame, answer_frame}
 use Rattle.agent_door.specs.Round.{Round, IsWhole, IsOpen, rounds_frames, rounds_told}
 use Rattle.agent_door.specs.Serving.{AgentSide, IsRound, IsLateRound}
@@ -44,14 +44,17 @@ pub record Sends (frames : List Framed) (start now : AgentSide) : Type 0 where
   pub told_now : now.traffic ≡ Some after
   pub sent : after.sent ≡ before.sent ++ flat_map spelling frames
 
--- Each answer was heeded in the round of a question, of which the last one is open still; or those were that came until the
--- agent had not answered its question in time, or until its link was found down; or it was told that its kind is taken.
+-- Each answer was heeded in the round of a question, of which the last one is open still; or those were that came until
+-- the agent had not answered its question in time, or until its link was found down; or it was told that its kind is
+-- taken.
 pub data HeedsEach (registration : Registration) (answers : List Answer) (start now : AgentSide) : Type 0 where
-  asked : (rounds open_round : List Round) → AllByRecursion IsWhole rounds → AllByRecursion IsOpen open_round → IsRound open_round
+  asked : (rounds open_round : List Round) → AllByRecursion IsWhole rounds → AllByRecursion IsOpen open_round
+      → IsRound open_round
       → rounds_frames (rounds ++ open_round) ≡ map answer_frame answers
       → Sends (registered_frame registration ∷ rounds_told registration.kind (rounds ++ open_round)) start now
       → HeedsEach registration answers start now
-  too_late : (rounds open_round : List Round) (unheeded : List Framed) → AllByRecursion IsWhole rounds → AllByRecursion IsOpen open_round
+  too_late : (rounds open_round : List Round) (unheeded : List Framed) → AllByRecursion IsWhole rounds
+      → AllByRecursion IsOpen open_round
       → IsLateRound open_round
       → rounds_frames (rounds ++ open_round) ++ unheeded ≡ map answer_frame answers
       → Sends (registered_frame registration ∷ rounds_told registration.kind (rounds ++ open_round)) start now

@@ -2,14 +2,15 @@
 use Rattle.std.specs.Prelude.{◌≡◌, ℕ, ◌%◌}
 use Rattle.cynara_keys.specs.declared.results.Kind.{Kind}
 use Rattle.agent_table.specs.declared.table.Asked.{Asked}
-use Rattle.wire_messages.specs.Frame.{with_sequence}
-use Rattle.wire_messages.specs.Operation.{number_of}
-use Rattle.wire_messages.specs.Message.{operation}
-use Rattle.wire_messages.specs.declared.messages.Framed.{Framed}
-use Rattle.wire_messages.specs.declared.messages.Message.{Message}
-use Rattle.wire_messages.specs.declared.messages.Message.TheVariants.{Register, AgentAnswer, Registered, KindTaken, AgentQuestion}
-use Rattle.wire_messages.specs.declared.messages.Message.TheVariants.{UnknownNumber, AgentWithdrawn}
-use Rattle.wire_messages.specs.declared.refusals.WireRefusal.TheVariants.{BadOperation}
+use Rattle.wire_reading.specs.Frame.{with_sequence}
+use Rattle.wire_fields.specs.Operation.{number_of}
+use Rattle.wire_fields.specs.Message.{operation}
+use Rattle.wire_fields.specs.declared.messages.Framed.{Framed}
+use Rattle.wire_fields.specs.declared.messages.Message.{Message}
+use Rattle.wire_fields.specs.declared.messages.Message.TheVariants.{Register, AgentAnswer, Registered}
+use Rattle.wire_fields.specs.declared.messages.Message.TheVariants.{KindTaken, AgentQuestion}
+use Rattle.wire_fields.specs.declared.messages.Message.TheVariants.{UnknownNumber, AgentWithdrawn}
+use Rattle.wire_fields.specs.declared.refusals.WireRefusal.TheVariants.{BadOperation}
 use Rattle.door_frames.specs.declared.endings.Ended.{Ended}
 use Rattle.door_frames.specs.declared.endings.Ended.TheVariants.{BadFrame}
 use Rattle.agent_door.specs.declared.messages.Registration.{Registration}

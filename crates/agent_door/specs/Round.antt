@@ -1,10 +1,11 @@
--- One question after the other: what `next` gave an agent of a kind, and what came then until the question was no longer open.
+-- One question after the other: what `next` gave an agent of a kind, and what came then until the question was no
+-- longer open.
 use Rattle.std.specs.Prelude.{◌≡◌, ◌<◌, ◌≤◌, ℕ, Bool, true, false, List, [], ◌∷◌, ◌++◌, length, map, Result, Ok, Err}
 use Rattle.std.specs.List.{AllByRecursion, flat_map}
 use Rattle.cynara_keys.specs.declared.results.Kind.{Kind}
 use Rattle.agent_table.specs.declared.refusals.AnswerRefusal.{AnswerRefusal}
 use Rattle.agent_table.specs.declared.table.Asked.{Asked}
-use Rattle.wire_messages.specs.declared.messages.Framed.{Framed}
+use Rattle.wire_fields.specs.declared.messages.Framed.{Framed}
 use Rattle.server_hall.specs.declared.calls.HallCall.{HallCall}
 use Rattle.server_hall.specs.declared.calls.HallCall.TheVariants.{Next, Answer as AnswerCalled, Look}
 use Rattle.agent_door.specs.Frame.{answer_frame, question_frame, unknown_frame, withdrawn_frame}
@@ -15,8 +16,8 @@ pub record Given : Type 0 where
   pub answer : Answer
   pub result : Result (Unit {0}) AnswerRefusal
 
--- What came while a question was open: an answer; or none in a tenth of a second, and it was looked whether the question is open
--- still.
+-- What came while a question was open: an answer; or none in a tenth of a second, and it was looked whether the
+-- question is open still.
 pub data Turn : Type 0 where
   answered : Given → Turn
   looked : Bool → Turn

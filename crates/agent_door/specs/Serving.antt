@@ -5,14 +5,15 @@ use Rattle.link_ports.specs.Traffic.{Traffic}
 use Rattle.link_ports.specs.LinkMarks.{LinkMarks}
 use Rattle.cynara_keys.specs.declared.results.Kind.{Kind}
 use Rattle.agent_table.specs.declared.refusals.RegisterRefusal.{RegisterRefusal}
-use Rattle.agent_table.specs.declared.refusals.RegisterRefusal.TheVariants.{Stopped as NoneComes, Taken as KindTaken, Full, Memory as NoRoom}
-use Rattle.wire_messages.specs.Frame.{spelling}
-use Rattle.wire_messages.specs.Operation.{number_of}
-use Rattle.wire_messages.specs.Message.{operation}
-use Rattle.wire_messages.specs.Stream.{Hears, IsOpen as IsBegun}
-use Rattle.wire_messages.specs.declared.messages.Framed.{Framed}
-use Rattle.wire_messages.specs.declared.operations.Heard.TheVariants.{AtAgent}
-use Rattle.wire_messages.specs.declared.refusals.WireRefusal.TheVariants.{BadOperation}
+use Rattle.agent_table.specs.declared.refusals.RegisterRefusal.TheVariants.{Stopped as NoneComes, Taken as KindTaken}
+use Rattle.agent_table.specs.declared.refusals.RegisterRefusal.TheVariants.{Full, Memory as NoRoom}
+use Rattle.wire_reading.specs.Frame.{spelling}
+use Rattle.wire_fields.specs.Operation.{number_of}
+use Rattle.wire_fields.specs.Message.{operation}
+use Rattle.wire_reading.specs.Stream.{Hears, IsOpen as IsBegun}
+use Rattle.wire_fields.specs.declared.messages.Framed.{Framed}
+use Rattle.wire_fields.specs.declared.operations.Heard.TheVariants.{AtAgent}
+use Rattle.wire_fields.specs.declared.refusals.WireRefusal.TheVariants.{BadOperation}
 use Rattle.server_hall.specs.Tally.{Tally, after_join, after_part, after_calls}
 use Rattle.server_hall.specs.Told.{AppendsCalls}
 use Rattle.server_hall.specs.declared.calls.HallCall.{HallCall}
@@ -22,7 +23,8 @@ use Rattle.server_hall.specs.declared.refusals.NextRefusal.TheVariants.{Stopped 
 use Rattle.door_frames.specs.Carried.{Carried}
 use Rattle.door_frames.specs.Ending.{EndsBytes, IsAtEnd, faults_after}
 use Rattle.door_frames.specs.declared.endings.Ended.{Ended}
-use Rattle.door_frames.specs.declared.endings.Ended.TheVariants.{Closed, Cut, Hung, LinkFault, BadFrame, Stopped, Memory, Strayed}
+use Rattle.door_frames.specs.declared.endings.Ended.TheVariants.{Closed, Cut, Hung, LinkFault}
+use Rattle.door_frames.specs.declared.endings.Ended.TheVariants.{BadFrame, Stopped, Memory, Strayed}
 use Rattle.agent_door.specs.Frame.{register_frame, registered_frame, taken_frame}
 use Rattle.agent_door.specs.Round.{Round, IsWhole, IsOpen, IsLate, rounds_calls, rounds_frames, rounds_told}
 use Rattle.agent_door.specs.declared.messages.Registration.{Registration}
@@ -44,8 +46,8 @@ abbrev pub misplaced_behind : List Framed → ℕ
 misplaced_behind [] = 0x21
 misplaced_behind (framed ∷ more) = 0x20
 
--- The bytes that were received, of which these frames were heeded, are such where a connection ended so. A frame that is not
--- known where it stands is wrong there.
+-- The bytes that were received, of which these frames were heeded, are such where a connection ended so. A frame that
+-- is not known where it stands is wrong there.
 abbrev pub EndsHeeding : List ℕ → List Framed → Ended → Type 0
 EndsHeeding bytes heeded (BadFrame (BadOperation number)) =
     EndsBytes AtAgent bytes heeded (BadFrame (BadOperation number))
@@ -58,8 +60,8 @@ EndsHeeding bytes heeded ended = EndsBytes AtAgent bytes heeded ended
 abbrev pub HasHeededAll : List ℕ → List Framed → Type 0
 HasHeededAll bytes heeded = (rest : List ℕ) × Hears AtAgent bytes heeded rest × IsBegun AtAgent rest
 
--- These frames were due and so many of them sent: all, but for the last one where the connection ended for its link or for
--- want of memory.
+-- These frames were due and so many of them sent: all, but for the last one where the connection ended for its link or
+-- for want of memory.
 abbrev pub MayMiss : Ended → List Framed → Type 0
 MayMiss LinkFault missing = length missing ≤ 1
 MayMiss Memory missing = length missing ≤ 1
@@ -87,9 +89,11 @@ HasBegun bytes heeded = (more : List Framed) × (rest : List ℕ) × Hears AtAge
 abbrev pub refused_next : Kind → NextRefusal → List HallCall
 refused_next kind refusal = Next (record { kind = kind; result = Err refusal }) ∷ []
 
--- Why a connection ended as `Closed`, with these frames heeded of these bytes: the input ended between two frames while a
--- question was open; the agent had not answered the question in time; or its link was found down while nothing was asked.
-pub data Closes (kind : Kind) (bytes : List ℕ) (heeded : List Framed) (open_round : List Round) (last : List HallCall) (marks : LinkMarks) :
+-- Why a connection ended as `Closed`, with these frames heeded of these bytes: the input ended between two frames while
+-- a question was open; the agent had not answered the question in time; or its link was found down while nothing was
+-- asked.
+pub data Closes (kind : Kind) (bytes : List ℕ) (heeded : List Framed) (open_round : List Round) (last : List HallCall)
+    (marks : LinkMarks) :
     Type 0 where
   at_end : IsRound open_round → last ≡ [] → Hears AtAgent bytes heeded [] → marks.has_ended ≡ true
       → Closes kind bytes heeded open_round last marks
@@ -97,8 +101,8 @@ pub data Closes (kind : Kind) (bytes : List ℕ) (heeded : List Framed) (open_ro
   has_left : open_round ≡ [] → last ≡ refused_next kind Left → HasBegun bytes heeded → marks.is_down ≡ true
       → Closes kind bytes heeded open_round last marks
 
--- Where the connection ended so: which frames were heeded of the bytes, which question was open, which call of `next` gave
--- none, and what the link was found to be.
+-- Where the connection ended so: which frames were heeded of the bytes, which question was open, which call of `next`
+-- gave none, and what the link was found to be.
 abbrev pub EndsAsking : Kind → Ended → List ℕ → List Framed → List Round → List HallCall → LinkMarks → Type 0
 EndsAsking kind Closed bytes heeded open_round last marks = Closes kind bytes heeded open_round last marks
 EndsAsking kind (Cut count) bytes heeded open_round last marks =
@@ -109,17 +113,19 @@ EndsAsking kind Stopped bytes heeded open_round last marks =
     (open_round ≡ []) × (last ≡ refused_next kind NoneIsGiven) × HasBegun bytes heeded
 EndsAsking kind LinkFault bytes heeded open_round last marks = (last ≡ []) × HasBegun bytes heeded
 EndsAsking kind Memory bytes heeded open_round last marks =
-    ((last ≡ []) ⊎ ((open_round ≡ []) × (refusal : NextRefusal) × (last ≡ refused_next kind refusal))) × HasBegun bytes heeded
+    ((last ≡ []) ⊎ ((open_round ≡ []) × (refusal : NextRefusal) × (last ≡ refused_next kind refusal)))
+    × HasBegun bytes heeded
 EndsAsking kind (Hung entered now) bytes heeded open_round last marks = ⊥
 EndsAsking kind (Strayed number found) bytes heeded open_round last marks = ⊥
 
--- A look at the link may raise its count of failures, which never falls. A connection that ended for a failed call was ended by
--- the last that was counted.
+-- A look at the link may raise its count of failures, which never falls. A connection that ended for a failed call was
+-- ended by the last that was counted.
 abbrev pub RaisesFaults : Ended → ℕ → ℕ → Type 0
 RaisesFaults ended before now = (between : ℕ) × (before ≤ between) × (now ≡ faults_after ended between)
 
--- The agent registered and joined; it was asked one question after the other, each of which was answered or found withdrawn
--- before the next but for the last; each answer was handed to the hall, and of each withdrawn question the agent was told.
+-- The agent registered and joined; it was asked one question after the other, each of which was answered or found
+-- withdrawn before the next but for the last; each answer was handed to the hall, and of each withdrawn question the
+-- agent was told.
 pub record Asks (registration : Registration) (start now : AgentSide) (ended : Ended) : Type 0 where
   pub received : List ℕ
   pub rounds : List Round
@@ -133,7 +139,8 @@ pub record Asks (registration : Registration) (start now : AgentSide) (ended : E
   pub one : length open_round ≤ 1
   pub asking : EndsAsking registration.kind ended received
       (register_frame registration ∷ rounds_frames (rounds ++ open_round)) open_round last now.marks
-  pub all : ended ≡ LinkFault → missing ≡ [] → HasHeededAll received (register_frame registration ∷ rounds_frames (rounds ++ open_round))
+  pub all : ended ≡ LinkFault → missing ≡ []
+      → HasHeededAll received (register_frame registration ∷ rounds_frames (rounds ++ open_round))
   pub due : registered_frame registration ∷ rounds_told registration.kind (rounds ++ open_round) ≡ sent ++ missing
   pub missed : MayMiss ended missing
   pub carried : Carried start.traffic now.traffic received (flat_map spelling sent)
@@ -190,7 +197,8 @@ pub record IsUnjoined (result : Ended) (start now : AgentSide) : Type 0 where
   pub faults : now.faults ≡ faults_after result start.faults
   pub ends : now.marks.ends ≡ start.marks.ends
 
--- A connection of an agent: none registered; or the hall did not take it in; or it was asked, and left at the end, once.
+-- A connection of an agent: none registered; or the hall did not take it in; or it was asked, and left at the end,
+-- once.
 pub data Serves (result : Ended) (start now : AgentSide) : Type 0 where
   unregistered : IsUnregistered result start now → Serves result start now
   unjoined : IsUnjoined result start now → Serves result start now

@@ -1,6 +1,6 @@
 ghost use Rattle.std.specs.Prelude.{◌≡◌, ◌<◌, IsTrue, length};
 ghost use Rattle.cynara_keys.specs.PolicyResult.{is_agent};
-ghost use Rattle.wire_messages.specs.declared.operations.Heard.TheVariants.{AtAgent};
+ghost use Rattle.wire_fields.specs.declared.operations.Heard.TheVariants.{AtAgent};
 ghost use Rattle.door_frames.specs.Hearing.{IsSound};
 ghost use Rattle.agent_door.specs.Serving.{AgentSide, agent_side, Asks, Serves};
 ghost use Rattle.agent_door.specs.parts.Talk.{HasJoined, TellsTaken};
@@ -18,10 +18,10 @@ use std::alloc::Global;
 use std::sync::Wait;
 use wire_messages::{Feeder, Heard, Message};
 
-/// Serves one connection of an agent: it registers for a kind, is given one question of the kind after the other, and each of
-/// its answers is handed to the hall. It is told of a question that was withdrawn before it answered. An agent whose kind is
-/// taken, or for which there is no room, is told so, and its connection ends. So does that of an agent that left, and of one
-/// that has not answered a question in 600 turns of a tenth of a second at most. It may wait.
+/// Serves one connection of an agent: it registers for a kind, is given one question of the kind after the other, and
+/// each of its answers is handed to the hall. It is told of a question that was withdrawn before it answered. An agent
+/// whose kind is taken, or for which there is no room, is told so, and its connection ends. So does that of an agent
+/// that left, and of one that has not answered a question in 600 turns of a tenth of a second at most. It may wait.
 pub fn agent_loop<R: Wait, A: Hall, L: Link>(
     rt: &R,
     alloc: Global,
@@ -65,7 +65,8 @@ pub fn agent_loop<R: Wait, A: Hall, L: Link>(
 
 // Tells an agent that its kind is taken.
 fn tell_taken<L: Link>(link: &mut L, frame: &mut Bytes, registered: Registration) -> Ended
-    ensures told { TellsTaken registered result (L.traffic link.old) (L.traffic link.new) (L.faults link.old) (L.faults link.new) }
+    ensures told { TellsTaken registered result (L.traffic link.old) (L.traffic link.new) (L.faults link.old)
+        (L.faults link.new) }
     ensures marks { L.marks link.new ≡ L.marks link.old }
 {
     let message = Message::KindTaken {

@@ -1,6 +1,6 @@
-//! The door for agents: an agent registers for a kind, is given one question after the other, and answers each under its
-//! number, or is told that it was withdrawn. While an agent has a question, or waits for one, it is looked each tenth of a second
-//! whether it is still there and the question still open.
+//! The door for agents: an agent registers for a kind, is given one question after the other, and answers each under
+//! its number, or is told that it was withdrawn. While an agent has a question, or waits for one, it is looked each
+//! tenth of a second whether it is still there and the question still open.
 #![tactic(auto)]
 
 mod agent_loops;

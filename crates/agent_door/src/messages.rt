@@ -1,10 +1,10 @@
 // What an agent says, and what is not known where it stands.
 ghost use Rattle.std.specs.Prelude.{◌≡◌, IsTrue, MatchResult, MatchOption};
 ghost use Rattle.cynara_keys.specs.PolicyResult.{is_agent};
-ghost use Rattle.wire_messages.specs.Hearing.{IsHeard};
-ghost use Rattle.wire_messages.specs.declared.operations.Heard.TheVariants.{AtAgent};
-ghost use Rattle.wire_messages.specs.Operation.{number_of};
-ghost use Rattle.wire_messages.specs.declared.refusals.WireRefusal.TheVariants.{BadOperation};
+ghost use Rattle.wire_reading.specs.Hearing.{IsHeard};
+ghost use Rattle.wire_fields.specs.declared.operations.Heard.TheVariants.{AtAgent};
+ghost use Rattle.wire_fields.specs.Operation.{number_of};
+ghost use Rattle.wire_fields.specs.declared.refusals.WireRefusal.TheVariants.{BadOperation};
 ghost use Rattle.door_frames.specs.declared.endings.Ended.TheVariants.{BadFrame};
 ghost use Rattle.agent_door.specs.Frame.{register_frame, answer_frame, IsOutOfPlace, IsNoRegistration, IsNoAnswer};
 
@@ -35,7 +35,7 @@ pub(crate) fn read_registration(framed: Framed) -> Result<Registration, Ended>
         (IsOutOfPlace 0x21 framed) }
 {
     let registration = registration_in(&framed);
-    // Handed on by value, it is not gone through variant by variant here.
+    // proof: handed on by value, so that it is not gone through variant by variant here.
     drop(framed);
     match registration {
         Some(registration) => Ok(registration),

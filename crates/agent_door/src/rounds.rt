@@ -1,11 +1,12 @@
 // One question after the other, until it is answered or withdrawn.
-ghost use Rattle.std.specs.Prelude.{◌≡◌, ◌<◌, ◌≤◌, ℕ, List, [], ◌∷◌, Bool, false, not, IsTrue, Some, None, length, MatchResult, OnOk, Result};
+ghost use Rattle.std.specs.Prelude.{◌≡◌, ◌<◌, ◌≤◌, ℕ, List, [], ◌∷◌, Bool, false};
+ghost use Rattle.std.specs.Prelude.{not, IsTrue, Some, None, length, MatchResult, OnOk, Result};
 ghost use Rattle.std.specs.List.{flat_map};
 ghost use Rattle.cynara_keys.specs.PolicyResult.{is_agent};
 ghost use Rattle.agent_table.specs.declared.table.Asked as asked_type;
 ghost use Rattle.agent_table.specs.declared.refusals.AnswerRefusal as refusal_type;
-ghost use Rattle.wire_messages.specs.Frame.{spelling};
-ghost use Rattle.wire_messages.specs.declared.operations.Heard.TheVariants.{AtAgent};
+ghost use Rattle.wire_reading.specs.Frame.{spelling};
+ghost use Rattle.wire_fields.specs.declared.operations.Heard.TheVariants.{AtAgent};
 ghost use Rattle.door_frames.specs.Carried.{Carried};
 ghost use Rattle.door_frames.specs.Hearing.{IsSound, HandsOut};
 ghost use Rattle.door_frames.specs.Ending.{EndsSending};
@@ -26,12 +27,12 @@ use server_hall::{Hall, NextRefusal};
 use std::snapshot::Snapshot;
 use wire_messages::{Feeder, Message};
 
-/// How many turns a question may be open, each a tenth of a second at most: an agent that has not answered in this time, a
-/// minute, is treated as one that left.
+/// How many turns a question may be open, each a tenth of a second at most: an agent that has not answered in this
+/// time, a minute, is treated as one that left.
 pub const MOST_TURNS: u32 = 600;
 
-/// Gives the agent its next question, and waits until that is answered or withdrawn. An agent that left, and one that does
-/// not answer in time, ends its connection. It may wait.
+/// Gives the agent its next question, and waits until that is answered or withdrawn. An agent that left, and one that
+/// does not answer in time, ends its connection. It may wait.
 pub(crate) fn round<A: Hall, L: Link>(
     hall: &mut A,
     link: &mut L,
@@ -55,7 +56,8 @@ pub(crate) fn round<A: Hall, L: Link>(
         (Ends registration
         (agent_side (A.tally hall.old) (A.calls hall.old) (L.traffic link.old) (L.marks link.old) (L.faults link.old))
         feeder.old None
-        (agent_side (A.tally hall.new) (A.calls hall.new) (L.traffic link.new) (L.marks link.new) (L.faults link.new))) }
+        (agent_side (A.tally hall.new) (A.calls hall.new) (L.traffic link.new) (L.marks link.new)
+        (L.faults link.new))) }
 {
     let kind = registration.kind;
     let asked = match hall.next(kind, link) {
@@ -134,7 +136,8 @@ fn take_turns<A: Hall, L: Link>(
         (Ends registration
         (agent_side (A.tally hall.old) (A.calls hall.old) (L.traffic link.old) (L.marks link.old) (L.faults link.old))
         feeder.old (Some (waiting_since asked 0))
-        (agent_side (A.tally hall.new) (A.calls hall.new) (L.traffic link.new) (L.marks link.new) (L.faults link.new))) }
+        (agent_side (A.tally hall.new) (A.calls hall.new) (L.traffic link.new) (L.marks link.new)
+        (L.faults link.new))) }
 {
     for turn in 0..MOST_TURNS {
         match take_turn(hall, link, feeder, room, frame, registration, number) {
@@ -146,8 +149,8 @@ fn take_turns<A: Hall, L: Link>(
     Err(Ended::Closed)
 }
 
-// Hands in the next answer, if one comes in time, and else looks whether the question of this number is open still. Whether
-// its round is closed.
+// Hands in the next answer, if one comes in time, and else looks whether the question of this number is open still.
+// Whether its round is closed.
 fn take_turn<A: Hall, L: Link>(
     hall: &mut A,
     link: &mut L,

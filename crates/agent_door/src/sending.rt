@@ -1,5 +1,5 @@
 ghost use Rattle.std.specs.Prelude.{◌≡◌, [], MatchResult};
-ghost use Rattle.wire_messages.specs.Frame.{spelling, with_sequence};
+ghost use Rattle.wire_reading.specs.Frame.{spelling, with_sequence};
 ghost use Rattle.door_frames.specs.Carried.{Carried};
 ghost use Rattle.door_frames.specs.Ending.{EndsSending};
 
@@ -23,7 +23,7 @@ pub(crate) fn send<L: Link>(
     ensures marks { L.marks link.new ≡ L.marks link.old }
 {
     let sent = send_message(link, frame, sequence, &message);
-    // Handed on by value, it is not gone through variant by variant here.
+    // proof: handed on by value, so that it is not gone through variant by variant here.
     drop(message);
     match sent {
         Ok(()) => Ok(()),

@@ -1,7 +1,7 @@
 // What an agent says within a tenth of a second.
 ghost use Rattle.std.specs.Prelude.{◌≡◌, ◌<◌, ◌≤◌, ℕ, List, [], None, IfOk, IfSome, length, MatchResult, OnOk};
-ghost use Rattle.wire_messages.specs.Hearing.{IsHeard};
-ghost use Rattle.wire_messages.specs.declared.operations.Heard.TheVariants.{AtAgent};
+ghost use Rattle.wire_reading.specs.Hearing.{IsHeard};
+ghost use Rattle.wire_fields.specs.declared.operations.Heard.TheVariants.{AtAgent};
 ghost use Rattle.door_frames.specs.Carried.{Carried};
 ghost use Rattle.door_frames.specs.Hearing.{IsSound};
 ghost use Rattle.door_frames.specs.Ending.{EndsReading};
@@ -42,7 +42,8 @@ pub(crate) fn answer_in_time<L: Link>(
     }
 }
 
-// The next frame, where one is there or comes within a tenth of a second. Of a frame that comes in pieces one is received.
+// The next frame, where one is there or comes within a tenth of a second. Of a frame that comes in pieces one is
+// received.
 fn frame_in_time<L: Link>(
     link: &mut L,
     feeder: &mut Feeder,

@@ -1,10 +1,10 @@
 -- A message that was received piece by piece, and heard.
 use Rattle.std.proofs.Common.{◌≡◌, ◌<◌, ℕ, List, [], ◌∷◌, ◌++◌, length, true, false, Result, Ok, Err, refl, sym, ap, ◌∙◌, subst, append-nil, arith}
-use Rattle.wire_messages.specs.Stream.{Feeding, Hears, IsOpen, first_of, unfed}
-use Rattle.wire_messages.specs.declared.messages.Framed.{Framed}
-use Rattle.wire_messages.specs.declared.operations.Heard.{Heard}
-use Rattle.wire_messages.specs.declared.operations.Heard.TheVariants.{AgentReplies}
-use Rattle.wire_messages.specs.declared.refusals.WireRefusal.{WireRefusal}
+use Rattle.wire_reading.specs.Stream.{Feeding, Hears, IsOpen, first_of, unfed}
+use Rattle.wire_fields.specs.declared.messages.Framed.{Framed}
+use Rattle.wire_fields.specs.declared.operations.Heard.{Heard}
+use Rattle.wire_fields.specs.declared.operations.Heard.TheVariants.{AgentReplies}
+use Rattle.wire_fields.specs.declared.refusals.WireRefusal.{WireRefusal}
 use Rattle.client_connection.specs.Reading.{IsWrong}
 use Rattle.agent_runs.specs.LinkSeen.{LinkSeen, Carries}
 use Rattle.agent_runs.specs.parts.Hearing.{HearsNext, HearsPiece, Came, TakesPiece}

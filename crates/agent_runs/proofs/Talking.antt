@@ -7,14 +7,14 @@ use Rattle.desk_ports.specs.Faults.{next_count}
 use Rattle.desk_ports.specs.Content.{Appended}
 use Rattle.desk_ports.proofs.Appends.{Appended-none, Appended-then}
 use Rattle.cynara_keys.specs.declared.results.Kind.{Kind}
-use Rattle.wire_messages.specs.declared.messages.Framed.{Framed}
-use Rattle.wire_messages.specs.declared.messages.Message.{Message}
-use Rattle.wire_messages.specs.declared.messages.Message.TheVariants.{Register, Registered, KindTaken}
-use Rattle.wire_messages.specs.declared.operations.Heard.TheVariants.{AgentReplies}
-use Rattle.wire_messages.specs.declared.refusals.WireRefusal.TheVariants.{TooShort, TooLong, BadOperation, BadField, Trailing, Memory as NoMemory}
-use Rattle.wire_messages.specs.Frame.{spelling, with_sequence}
-use Rattle.wire_messages.specs.Stream.{Hears, IsOpen, first_of}
-use Rattle.wire_messages.proofs.Streams.{hears_more, hears_then}
+use Rattle.wire_fields.specs.declared.messages.Framed.{Framed}
+use Rattle.wire_fields.specs.declared.messages.Message.{Message}
+use Rattle.wire_fields.specs.declared.messages.Message.TheVariants.{Register, Registered, KindTaken}
+use Rattle.wire_fields.specs.declared.operations.Heard.TheVariants.{AgentReplies}
+use Rattle.wire_fields.specs.declared.refusals.WireRefusal.TheVariants.{TooShort, TooLong, BadOperation, BadField, Trailing, Memory as NoMemory}
+use Rattle.wire_reading.specs.Frame.{spelling, with_sequence}
+use Rattle.wire_reading.specs.Stream.{Hears, IsOpen, first_of}
+use Rattle.wire_reading.proofs.Streams.{hears_more, hears_then}
 use Rattle.run_endings.specs.Ending.{net_faults_after}
 use Rattle.run_endings.specs.Outside.{SinkSeen}
 use Rattle.run_endings.specs.Saying.{Said, silence, AreWritten}

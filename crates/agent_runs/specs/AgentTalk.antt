@@ -2,15 +2,15 @@
 use Rattle.std.specs.Prelude.{◌≡◌, ◌⊎◌, ◌<◌, ◌≤◌, ℕ, Bool, true, false, List, [], ◌∷◌, ◌++◌, length}
 use Rattle.std.specs.List.{flat_map, AllByRecursion}
 use Rattle.cynara_keys.specs.declared.results.Kind.{Kind}
-use Rattle.line_script.specs.Answers.{question_text, taken_text}
-use Rattle.wire_messages.specs.declared.messages.Framed.{Framed}
-use Rattle.wire_messages.specs.declared.messages.Message.{Message}
-use Rattle.wire_messages.specs.declared.messages.Message.TheVariants.{Register, AgentAnswer, Registered, KindTaken, AgentQuestion, UnknownNumber}
-use Rattle.wire_messages.specs.declared.messages.Message.TheVariants.{AgentWithdrawn}
-use Rattle.wire_messages.specs.declared.operations.Heard.TheVariants.{AgentReplies}
-use Rattle.wire_messages.specs.declared.refusals.WireRefusal.{WireRefusal}
-use Rattle.wire_messages.specs.Frame.{spelling, with_sequence}
-use Rattle.wire_messages.specs.Stream.{Hears, IsOpen, Wrong, first_of}
+use Rattle.line_answers.specs.Answers.{question_text, taken_text}
+use Rattle.wire_fields.specs.declared.messages.Framed.{Framed}
+use Rattle.wire_fields.specs.declared.messages.Message.{Message}
+use Rattle.wire_fields.specs.declared.messages.Message.TheVariants.{Register, AgentAnswer, Registered, KindTaken, AgentQuestion, UnknownNumber}
+use Rattle.wire_fields.specs.declared.messages.Message.TheVariants.{AgentWithdrawn}
+use Rattle.wire_fields.specs.declared.operations.Heard.TheVariants.{AgentReplies}
+use Rattle.wire_fields.specs.declared.refusals.WireRefusal.{WireRefusal}
+use Rattle.wire_reading.specs.Frame.{spelling, with_sequence}
+use Rattle.wire_reading.specs.Stream.{Hears, IsOpen, Wrong, first_of}
 use Rattle.client_connection.specs.Reading.{size_of}
 use Rattle.run_endings.specs.Ending.{net_faults_after}
 use Rattle.run_endings.specs.Outside.{SinkSeen}

@@ -1,13 +1,13 @@
 // An agent over a link that was dialled.
 ghost use Rattle.std.specs.Prelude.{◌≡◌, [], OnOk};
 ghost use Rattle.cynara_keys.specs.declared.results.Kind as kind_type;
-ghost use Rattle.wire_messages.specs.declared.messages.Framed as framed_type;
-ghost use Rattle.wire_messages.specs.declared.messages.Message.TheVariants.{Register};
-ghost use Rattle.wire_messages.specs.declared.operations.Heard.TheVariants.{AgentReplies};
-ghost use Rattle.wire_messages.specs.Frame.{spelling, with_sequence};
-ghost use Rattle.wire_messages.specs.Stream.{unfed};
+ghost use Rattle.wire_fields.specs.declared.messages.Framed as framed_type;
+ghost use Rattle.wire_fields.specs.declared.messages.Message.TheVariants.{Register};
+ghost use Rattle.wire_fields.specs.declared.operations.Heard.TheVariants.{AgentReplies};
+ghost use Rattle.wire_reading.specs.Frame.{spelling, with_sequence};
+ghost use Rattle.wire_reading.specs.Stream.{unfed};
 ghost use Rattle.run_endings.specs.Outside.{SinkSeen, sink_seen};
-ghost use Rattle.line_script.specs.Answers.{taken_text};
+ghost use Rattle.line_answers.specs.Answers.{taken_text};
 ghost use Rattle.agent_runs.specs.LinkSeen.{LinkSeen, link_seen};
 ghost use Rattle.agent_runs.specs.AgentTalk.{Served};
 ghost use Rattle.agent_runs.specs.parts.Hearing.{ending_of};
@@ -18,7 +18,7 @@ use crate::reply_notes::{note_cut, note_misplaced, note_wrong};
 use crate::turns::{Room, follow, send_message, write_line};
 use cynara_keys::Kind;
 use desk_ports::{Bytes, Sink};
-use line_script::LineAnswer;
+use line_answers::LineAnswer;
 use link_ports::Link;
 use run_endings::Ending;
 use std::alloc::Global;

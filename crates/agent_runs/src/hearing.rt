@@ -1,6 +1,6 @@
 // One message at a time is heard over a link.
 ghost use Rattle.std.specs.Prelude.{◌≡◌, ◌<◌, ◌≤◌, [], None, length, OnOk};
-ghost use Rattle.wire_messages.specs.Stream.{IsOpen, wanted};
+ghost use Rattle.wire_reading.specs.Stream.{IsOpen, wanted};
 ghost use Rattle.agent_runs.specs.LinkSeen.{link_seen};
 ghost use Rattle.agent_runs.specs.parts.Hearing.{IsUnused, HearsNext, HearsPiece, TakesPiece};
 

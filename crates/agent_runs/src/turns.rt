@@ -1,15 +1,15 @@
 // What an agent does with one message.
 ghost use Rattle.std.specs.Prelude.{◌≡◌, ◌≤◌, length};
 ghost use Rattle.run_endings.specs.Outside.{sink_seen};
-ghost use Rattle.line_script.specs.Answers.{answer_text};
-ghost use Rattle.wire_messages.specs.Frame.{body, spelling, with_sequence};
-ghost use Rattle.wire_messages.specs.declared.messages.Message.TheVariants.{AgentAnswer};
+ghost use Rattle.line_answers.specs.Answers.{answer_text};
+ghost use Rattle.wire_reading.specs.Frame.{body, spelling, with_sequence};
+ghost use Rattle.wire_fields.specs.declared.messages.Message.TheVariants.{AgentAnswer};
 ghost use Rattle.agent_runs.specs.LinkSeen.{link_seen};
 ghost use Rattle.agent_runs.specs.parts.Turns.{WritesLine, SendsFrame, WritesAndSends, Follows};
 
 use crate::reply_notes::note_misplaced;
 use desk_ports::{Bytes, Failed, Sink, write_all};
-use line_script::{LineAnswer, print};
+use line_answers::{LineAnswer, print};
 use link_ports::Link;
 use run_endings::Ending;
 use wire_messages::{EncodeRefusal, Framed, Message, encode_message_into};

@@ -1,5 +1,6 @@
 -- Names of packages, authors and applications. Their bytes and their length are this project's profile.
-use Rattle.std.specs.Prelude.{◌≡◌, ℕ, Bool, false, not, ◌||◌, nat_lt, ◌==◌, if◌then◌else◌, List, [], ◌∷◌, length, Option, Some, None}
+use Rattle.std.specs.Prelude.{◌≡◌, ℕ, Bool, false, not, ◌||◌, nat_lt, ◌==◌}
+use Rattle.std.specs.Prelude.{if◌then◌else◌, List, [], ◌∷◌, length, Option, Some, None}
 use Rattle.std.specs.List.{position}
 use Rattle.cynara_keys.specs.Text.{is_word_byte}
 use Rattle.app_registry.specs.Limits.{most_ident_bytes}

@@ -1,5 +1,5 @@
--- The Smack labels of packages and of their applications. That an application of a plain package runs with the label of its
--- package, and one of a hybrid package with a label of its own, is security-manager's.
+-- The Smack labels of packages and of their applications. That an application of a plain package runs with the label of
+-- its package, and one of a hybrid package with a label of its own, is security-manager's.
 use Rattle.std.specs.Prelude.{ℕ, List, ◌++◌, codes, if◌then◌else◌, Option, option_map, find}
 use Rattle.app_registry.specs.Install.{is_of_app}
 use Rattle.app_registry.specs.Registry.{RegistryLists}

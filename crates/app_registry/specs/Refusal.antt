@@ -1,16 +1,19 @@
 -- Why a change of a registry is refused. The limits and the order of the refusals are this project's profile.
-use Rattle.std.specs.Prelude.{◌≡◌, ℕ, Bool, ◌&&◌, not, nat_lt, if◌then◌else◌, List, length, Option, Some, None, option_map, find}
+use Rattle.std.specs.Prelude.{◌≡◌, ℕ, Bool, ◌&&◌, not, nat_lt, if◌then◌else◌}
+use Rattle.std.specs.Prelude.{List, length, Option, Some, None, option_map, find}
 use Rattle.std.specs.List.{list_any}
 use Rattle.std.specs.Option.{option_or}
 use Rattle.cynara_keys.specs.declared.limits.Counted.{Counted}
 use Rattle.cynara_keys.specs.declared.limits.Counted.TheVariants.{Users, Packages, Installs, Grants}
 use Rattle.app_registry.specs.Install.{is_of_package, is_of_app, is_install_of, same_author, same_kind}
-use Rattle.app_registry.specs.Registry.{RegistryLists, has_user, has_package, packages, grant_count, with_user, with_install}
+use Rattle.app_registry.specs.Registry.{RegistryLists, has_user, has_package, packages}
+use Rattle.app_registry.specs.Registry.{grant_count, with_user, with_install}
 use Rattle.app_registry.specs.declared.installs.Install.{Install}
 use Rattle.app_registry.specs.declared.installs.Scope.{Scope}
 use Rattle.app_registry.specs.declared.installs.Scope.TheVariants.{Everyone, One}
 use Rattle.app_registry.specs.declared.refusals.RegistryRefusal.{RegistryRefusal}
-use Rattle.app_registry.specs.declared.refusals.RegistryRefusal.TheVariants.{UnknownUser, OtherPackage, OtherAuthor, OtherHybrid, NotInstalled, Limit, Memory}
+use Rattle.app_registry.specs.declared.refusals.RegistryRefusal.TheVariants.{UnknownUser, OtherPackage, OtherAuthor}
+use Rattle.app_registry.specs.declared.refusals.RegistryRefusal.TheVariants.{OtherHybrid, NotInstalled, Limit, Memory}
 use Rattle.app_registry.specs.Limits.{most_users, most_packages, most_installs, most_grants}
 use Rattle.app_registry.specs.declared.users.User.{User}
 use Rattle.app_registry.specs.declared.users.UserType.{UserType}
@@ -73,7 +76,8 @@ install_fault registry install =
     option_or (owner_fault registry install) (installs_limit (with_install registry install).installs)
 
 abbrev pub uninstall_fault : RegistryLists → List ℕ → Scope → Option RegistryRefusal
-uninstall_fault registry app scope = if list_any (is_install_of app scope) registry.installs then None else Some NotInstalled
+uninstall_fault registry app scope =
+    if list_any (is_install_of app scope) registry.installs then None else Some NotInstalled
 
 -- Nothing else stands against a package of another kind: its installs, and what is counted, are as many as before.
 abbrev pub convert_fault : RegistryLists → List ℕ → Option RegistryRefusal

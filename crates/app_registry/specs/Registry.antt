@@ -1,5 +1,6 @@
 -- Registries: users in the order of their numbers, and installs in the order of package, application and scope.
-use Rattle.std.specs.Prelude.{ℕ, Bool, ◌==◌, not, if◌then◌else◌, List, [], Option, find, filter, map, length, option_map, option_and_then}
+use Rattle.std.specs.Prelude.{ℕ, Bool, ◌==◌, not, if◌then◌else◌, List, []}
+use Rattle.std.specs.Prelude.{Option, find, filter, map, length, option_map, option_and_then}
 use Rattle.std.specs.declared.cmp.Ordering.{Ordering}
 use Rattle.std.specs.List.{dedup, list_any, sum_by}
 use Rattle.std.specs.Ordering.{nat_cmp, on}
@@ -54,7 +55,8 @@ grant_count installs = sum_by (λ install. length install.privileges) installs
 -- ---- changes
 
 abbrev pub with_user : RegistryLists → ℕ → UserType → RegistryLists
-with_user registry uid kind = record registry { users = placed user_cmp (record { uid = uid; kind = kind }) registry.users }
+with_user registry uid kind =
+    record registry { users = placed user_cmp (record { uid = uid; kind = kind }) registry.users }
 
 -- a user goes with the installs that are for this user alone
 abbrev pub without_user : RegistryLists → ℕ → RegistryLists

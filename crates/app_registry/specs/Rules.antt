@@ -10,8 +10,8 @@ use Rattle.app_registry.specs.declared.installs.Install.{Install}
 use Rattle.app_registry.specs.Limits.{most_users}
 use Rattle.app_registry.specs.declared.users.User.{User}
 
--- Each user and each install stands once, and before those behind it in the order. The user of each install is there, no
--- application is in two packages, no package has two authors or is both hybrid and plain, and no limit is passed.
+-- Each user and each install stands once, and before those behind it in the order. The user of each install is there,
+-- no application is in two packages, no package has two authors or is both hybrid and plain, and no limit is passed.
 pub record IsRegistry (users : List User) (installs : List Install) : Type 0 where
   pub users_rise : IsStrictlySortedBy user_cmp users
   pub installs_rise : IsStrictlySortedBy install_cmp installs

@@ -1,6 +1,7 @@
 //! The installs of a registry, with an index beside them.
 
-ghost use Rattle.std.specs.Prelude.{◌≡◌, ◌+◌, ◌≤◌, true, false, not, None, IsTrue, IsFalse, IfSome, MatchResult, filter, find, insert, length};
+ghost use Rattle.std.specs.Prelude.{◌≡◌, ◌+◌, ◌≤◌, true, false, not, None, IsTrue};
+ghost use Rattle.std.specs.Prelude.{IsFalse, IfSome, MatchResult, filter, find, insert, length};
 ghost use Rattle.std.specs.List.{list_any};
 ghost use Rattle.std.specs.List.Sorted.{IsStrictlySortedBy, IsSearchInRange};
 ghost use Rattle.std.specs.Option.{option_copied};
@@ -20,9 +21,9 @@ use crate::{GRANT_LIMIT, INSTALL_LIMIT, Ident, Install, Scope};
 use std::alloc::Global;
 use std::marker::Model;
 
-/// Installs in the order of package, application and scope. The first one that is put in place makes an index of them, and
-/// later ones keep it: to tell that an application is new, and that there is room for its privileges, then takes no pass over
-/// all installs.
+/// Installs in the order of package, application and scope. The first one that is put in place makes an index of them,
+/// and later ones keep it: to tell that an application is new, and that there is room for its privileges, then takes no
+/// pass over all installs.
 #[derive(Debug, Drop)]
 pub struct InstallList {
     installs: Vec<Install>,
@@ -46,7 +47,8 @@ impl Model for InstallList {
 
     ghost view = { λ list. list.installs.items };
 
-    ghost invariant = { λ list. IfSome list.index (λ index. IsIndexed index.apps.items index.granted list.installs.items) };
+    ghost invariant = { λ list.
+        IfSome list.index (λ index. IsIndexed index.apps.items index.granted list.installs.items) };
 }
 
 impl InstallList {
@@ -60,6 +62,7 @@ impl InstallList {
         }
     }
 
+    /// The installs, in their order. Takes no memory.
     pub fn as_slice(&self) -> &[Install]
         ensures { result.now ≡ self.now }
     {
@@ -194,7 +197,8 @@ fn put(installs: &mut Vec<Install>, install: &Install) -> bool
     ensures installs_fit { IsTrue result → over Installs most_installs (length installs.new.items) ≡ None }
     ensures granted { IsTrue result
         → grant_count installs.new.items ≡ grant_count installs.old.items + length install.now.privileges }
-    ensures taken_back { IsTrue result → list_any (is_install_of install.now.app install.now.scope) installs.old.items ≡ false
+    ensures taken_back { IsTrue result
+        → list_any (is_install_of install.now.app install.now.scope) installs.old.items ≡ false
         → filter (λ other. not (is_install_of install.now.app install.now.scope other)) installs.new.items
         ≡ installs.old.items }
     ensures kept { IsFalse result → installs.new.items ≡ installs.old.items }

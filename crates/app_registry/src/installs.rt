@@ -28,7 +28,8 @@ pub struct Install {
     pub app: Ident,
     pub scope: Scope,
     pub privileges: NameSet,
-    /// Whether the package is hybrid: each of its applications then runs with a label of its own. All installs of a package agree.
+    /// Whether the package is hybrid: each of its applications then runs with a label of its own. All installs of a
+    /// package agree.
     pub hybrid: bool,
 }
 

@@ -23,8 +23,8 @@ pub fn package_label(alloc: Global, package: &Ident) -> Result<Label, AllocError
     Label::of(alloc, &text)
 }
 
-/// The label with which an installed application runs: in a hybrid package `User::Pkg::`, its package, `::App::` and its own
-/// name, else that of its package.
+/// The label with which an installed application runs: in a hybrid package `User::Pkg::`, its package, `::App::` and
+/// its own name, else that of its package.
 pub fn install_label(alloc: Global, install: &Install) -> Result<Label, AllocError>
     ensures { IfOk result (λ label. label ≡ install_label install.now) }
 {

@@ -36,7 +36,8 @@ pub fn installs_limit(installs: &[Install]) -> Option<RegistryRefusal>
     None
 }
 
-/// Whether there are more packages than there is room for. No count is needed where there are not even as many installs.
+/// Whether there are more packages than there is room for. No count is needed where there are not even as many
+/// installs.
 pub fn has_too_many_packages(installs: &[Install]) -> bool
     ensures { result ≡ nat_lt most_packages (length (packages installs.now)) }
 {

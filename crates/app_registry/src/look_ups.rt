@@ -3,7 +3,8 @@ ghost use Rattle.std.specs.Prelude.{◌≡◌, ◌≤◌, ◌==◌, true, false,
 ghost use Rattle.std.specs.List.Sorted.{IsPartitionPoint, IsStrictlySortedBy};
 ghost use Rattle.std.specs.Option.{option_copied};
 ghost use Rattle.std.specs.List.{list_any};
-ghost use Rattle.app_registry.specs.Install.{comes_before, install_cmp, is_of_app, is_install_of, is_of_package, same_author, same_kind};
+ghost use Rattle.app_registry.specs.Install.{comes_before, install_cmp, is_of_app, is_install_of};
+ghost use Rattle.app_registry.specs.Install.{is_of_package, same_author, same_kind};
 ghost use Rattle.app_registry.specs.Refusal.{is_elsewhere, is_by_another, is_of_other_kind};
 ghost use Rattle.app_registry.specs.Registry.{has_user};
 

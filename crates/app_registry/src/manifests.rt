@@ -51,7 +51,8 @@ fn push_each(
     Ok(())
 }
 
-/// The key with which an install of this client and for these users is granted a privilege. Fails only for lack of memory.
+/// The key with which an install of this client and for these users is granted a privilege. Fails only for lack of
+/// memory.
 pub fn grant(
     alloc: Global,
     client: &Field,
@@ -64,8 +65,8 @@ pub fn grant(
     Key::of_fields(alloc, client, user, &privilege)
 }
 
-/// The users of a scope as the user of keys: the wildcard for everyone, or one number in decimal. Fails only for lack of
-/// memory.
+/// The users of a scope as the user of keys: the wildcard for everyone, or one number in decimal. Fails only for lack
+/// of memory.
 pub fn scope_field(alloc: Global, scope: Scope) -> Result<Field, AllocError>
     ensures { IfOk result (λ field. field ≡ scope_field scope) }
 {

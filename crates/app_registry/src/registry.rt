@@ -8,7 +8,8 @@ ghost use Rattle.std.specs.Option.{option_copied};
 ghost use Rattle.cynara_keys.specs.Key.{key_cmp};
 ghost use Rattle.app_registry.specs.Label.{label_of};
 ghost use Rattle.app_registry.specs.Manifest.{grants, manifest_rows};
-ghost use Rattle.app_registry.specs.Refusal.{Refuses, owner_fault, user_set_fault, user_remove_fault, install_fault, uninstall_fault, convert_fault};
+ghost use Rattle.app_registry.specs.Refusal.{Refuses, owner_fault, user_set_fault, user_remove_fault};
+ghost use Rattle.app_registry.specs.Refusal.{install_fault, uninstall_fault, convert_fault};
 ghost use Rattle.app_registry.specs.Registry.{no_entries, has_package, author_of, package_of, kind_of};
 ghost use Rattle.app_registry.specs.Rules.{IsRegistry};
 ghost use Rattle.app_registry.specs.Registry.{with_user, without_user, with_install, without_install, with_kind};
@@ -139,9 +140,9 @@ impl Registry {
     }
 
     /// The registry with this install, in place of one of the same application and scope. Refuses, in this order,
-    /// `UnknownUser` of the scope, `OtherPackage`, where the application is installed in another package, `OtherAuthor`,
-    /// where an install of the package has another author or only one of them has one, `OtherHybrid`, where an install of the
-    /// package is of the other kind, and `Limit` of `Packages`, `Installs` and `Grants`.
+    /// `UnknownUser` of the scope, `OtherPackage`, where the application is installed in another package,
+    /// `OtherAuthor`, where an install of the package has another author or only one of them has one, `OtherHybrid`,
+    /// where an install of the package is of the other kind, and `Limit` of `Packages`, `Installs` and `Grants`.
     pub fn install(&self, install: &Install) -> Result<Registry, RegistryRefusal>
         ensures registry { IfOk result (λ registry. registry ≡ with_install self.now install.now) }
         ensures accepted { OnOk result (install_fault self.now install.now ≡ None) }
@@ -180,7 +181,8 @@ impl Registry {
         })
     }
 
-    /// The registry in which all installs of the package are of a hybrid one, or of a plain one. Refuses `NotInstalled`.
+    /// The registry in which all installs of the package are of a hybrid one, or of a plain one. Refuses
+    /// `NotInstalled`.
     pub fn convert(&self, package: &Ident, hybrid: bool) -> Result<Registry, RegistryRefusal>
         ensures registry { IfOk result (λ registry. registry ≡ with_kind self.now «package».now hybrid) }
         ensures accepted { OnOk result (convert_fault self.now «package».now ≡ None) }

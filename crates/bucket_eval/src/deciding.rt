@@ -1,13 +1,16 @@
-// What a bucket answers, by the sheets of an index. Each bucket answers once, when the first policy that points to it is
-// met, and of its policies only those are looked at whose shape is there.
-ghost use Rattle.std.specs.Prelude.{List, ◌≡◌, ◌<◌, ◌≤◌, ◌+◌, ℕ, length, slice_get, is_some, true, false, Some, None, IfSome};
+// What a bucket answers, by the sheets of an index. Each bucket answers once, when the first policy that points to it
+// is met, and of its policies only those are looked at whose shape is there.
+ghost use Rattle.std.specs.Prelude.{List, ◌≡◌, ◌<◌, ◌≤◌, ◌+◌, ℕ, length};
+ghost use Rattle.std.specs.Prelude.{slice_get, is_some, true, false, Some, None, IfSome};
 ghost use Rattle.std.specs.Ordering.{is_gt, nat_cmp, ordering_then};
 ghost use Rattle.cynara_keys.specs.PolicyResult.{result_cmp};
 ghost use Rattle.bucket_store.specs.Bucket.{Bucket as Content};
 ghost use Rattle.bucket_store.specs.WellFormed.{IsKept};
 ghost use Rattle.bucket_eval.specs.Evaluation.{Outcome};
 ghost use Rattle.bucket_eval.specs.parts.Buckets.{outcome_at};
-ghost use Rattle.bucket_eval.specs.parts.Deciding.{AnswersAt, EndsAt, FiledAt, FitsIn, FollowsAt, IsBestAt, IsLeastAt, IsLeastBelow, IsLesserAt, IsOrderAt, IsReady, IsRight, IsWeighedAt, answer_of, is_answered, is_bare, outcome_known};
+ghost use Rattle.bucket_eval.specs.parts.Deciding.{AnswersAt, EndsAt, FiledAt, FitsIn, FollowsAt, IsBestAt, IsLeastAt};
+ghost use Rattle.bucket_eval.specs.parts.Deciding.{IsLeastBelow, IsLesserAt, IsOrderAt, IsReady, IsRight, IsWeighedAt};
+ghost use Rattle.bucket_eval.specs.parts.Deciding.{answer_of, is_answered, is_bare, outcome_known};
 ghost use Rattle.bucket_eval.specs.parts.Slots.{spot_of};
 
 use crate::answers::Found;
@@ -77,7 +80,8 @@ impl Known {
     // The same by places that are no numbers of none.
     fn found(&self) -> Found
         requires { is_some (spot_of self.now.slot) ≡ true }
-        ensures { (o : Outcome) (buckets : List Content) → outcome_known buckets self.now ≡ Some o → outcome_at buckets result ≡ Some o }
+        ensures { (o : Outcome) (buckets : List Content) → outcome_known buckets self.now ≡ Some o
+            → outcome_at buckets result ≡ Some o }
     {
         let Some(bucket) = self.slot.bucket() else {
             unreachable!()
@@ -267,7 +271,8 @@ fn fallback_at(asking: &Asking<'_>, at: usize) -> Known
     requires right { IsRight asking.now }
     requires there { at < length asking.now.buckets.now }
     ensures spot { spot_of result.slot ≡ Some (record { bucket = at; policy = None }) }
-    ensures kind { (bucket : Content) → slice_get asking.now.buckets.now at ≡ Some bucket → result.kind ≡ bucket.fallback.kind }
+    ensures kind { (bucket : Content) → slice_get asking.now.buckets.now at ≡ Some bucket
+        → result.kind ≡ bucket.fallback.kind }
 {
     Known::of(at, None, sheet_at(asking, at).fallback)
 }

@@ -49,7 +49,8 @@ pub fn plain_borrowed(
     found_from(database, start, question, recursive)
 }
 
-// The same, for lifetimes that are one.
+// The same.
+// proof: one lifetime for all that is borrowed, since a struct of references at two is not covered.
 fn found_from<'a>(
     database: &'a Database,
     start: usize,

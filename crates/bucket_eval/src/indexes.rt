@@ -229,8 +229,8 @@ fn sheet_of(
     Ok(Some(shared))
 }
 
-// The sheets of the buckets in turn, where those of the buckets before are known, which are named alike; unless a key has
-// no mark, or there are too many new names.
+// The sheets of the buckets in turn, where those of the buckets before are known, which are named alike; unless a key
+// has no mark, or there are too many new names.
 fn next_sheets(
     alloc: Global,
     names: &mut Names,

@@ -1,12 +1,14 @@
-// The policies of a bucket as an index knows them: by the marks of their keys, with the kind of each and the place of the
-// bucket that it points to.
-ghost use Rattle.std.specs.Prelude.{◌≡◌, ◌==◌, ◌<◌, ◌≤◌, ◌+◌, ℕ, true, if◌then◌else◌, length, slice_get, IfOk, IfSome, Some, None};
+// The policies of a bucket as an index knows them: by the marks of their keys, with the kind of each and the place of
+// the bucket that it points to.
+ghost use Rattle.std.specs.Prelude.{◌≡◌, ◌==◌, ◌<◌, ◌≤◌, ◌+◌, ℕ, true};
+ghost use Rattle.std.specs.Prelude.{if◌then◌else◌, length, slice_get, IfOk, IfSome, Some, None};
 ghost use Rattle.std.proofs.Math.ListN.{set};
 ghost use Rattle.bucket_store.specs.WellFormed.{IsKept};
 ghost use Rattle.bucket_eval.specs.parts.Numbers.{KeepsNumbers};
 ghost use Rattle.std.specs.Prelude.{nat_eq};
 ghost use Rattle.std.specs.HashMap.{get};
-ghost use Rattle.bucket_eval.specs.parts.Sheets.{AreNext, is_behind, IsFiled, IsNextOf, IsSheetOf, TargetIs, drafted_in, filed_in};
+ghost use Rattle.bucket_eval.specs.parts.Sheets.{AreNext, is_behind, IsFiled, IsNextOf};
+ghost use Rattle.bucket_eval.specs.parts.Sheets.{IsSheetOf, TargetIs, drafted_in, filed_in};
 ghost use Rattle.bucket_eval.specs.parts.Slots.{none_or};
 
 use crate::names::Names;
@@ -19,8 +21,8 @@ use cynara_keys::Policy;
 use std::alloc::{AllocError, Global};
 use std::collections::HashMap;
 
-/// A policy: its place in the bucket, the place of the bucket that it points to or the number of no place, its kind, and
-/// the shape of its key.
+/// A policy: its place in the bucket, the place of the bucket that it points to or the number of no place, its kind,
+/// and the shape of its key.
 #[derive(Clone, Copy)]
 pub struct Filed {
     pub place: u32,
@@ -135,7 +137,8 @@ impl Draft {
         ensures shapes { self.new.shapes ≡ self.old.shapes }
         ensures first { self.new.first ≡ self.old.first }
         ensures filed { IfOk result (λ done. (other : ℕ)
-            → get nat_eq self.new.filed other ≡ (if other == mark then Some filed else get nat_eq self.old.filed other)) }
+            → get nat_eq self.new.filed other
+            ≡ (if other == mark then Some filed else get nat_eq self.old.filed other)) }
     {
         match self.filed.insert(mark, filed) {
             Ok(_) => Ok(()),

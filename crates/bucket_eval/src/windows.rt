@@ -15,8 +15,8 @@ pub struct Window {
     pub end: usize,
 }
 
-/// A window outside of which no policy matches the question: from the first policy of its client or of any client to the
-/// last, or longer where these are not few. Of few policies it is all.
+/// A window outside of which no policy matches the question: from the first policy of its client or of any client to
+/// the last, or longer where these are not few. Of few policies it is all.
 pub fn window_of(policies: &[Policy], question: &BorrowedQuestion<'_>, few: usize) -> Window
     requires { IsStrictlySortedBy policy_cmp policies.now }
     ensures order { result.start ≤ result.end }

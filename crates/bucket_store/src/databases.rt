@@ -27,8 +27,9 @@ pub use made::has_cycle;
 use std::alloc::{AllocError, Global};
 use std::marker::Model;
 
-/// The policy database: at most 1,024 buckets in rising order of name, and at most 65,536 policies over all of them. Each
-/// change gives a new one, which shares with this one the buckets that it does not touch; so a refusal changes nothing.
+/// The policy database: at most 1,024 buckets in rising order of name, and at most 65,536 policies over all of them.
+/// Each change gives a new one, which shares with this one the buckets that it does not touch; so a refusal changes
+/// nothing.
 #[derive(Drop)]
 pub struct Database {
     buckets: Vec<Bucket>,
@@ -221,9 +222,10 @@ impl Database {
         }
     }
 
-    /// Makes the changes in this database, where that can be done without a copy: they are at most 32, all of one bucket
-    /// that no other database shares, none puts a policy that points to a bucket, and there are room and memory for them.
-    /// Says whether it did. Where it did not nothing has changed, and `set_policies` makes the changes, or says why not.
+    /// Makes the changes in this database, where that can be done without a copy: they are at most 32, all of one
+    /// bucket that no other database shares, none puts a policy that points to a bucket, and there are room and memory
+    /// for them. Says whether it did. Where it did not nothing has changed, and `set_policies` makes the changes, or
+    /// says why not.
     pub fn change_in_place(&mut self, changes: &[Change]) -> bool
         ensures next { IsTrue result → self.new ≡ (request.set_policies changes.now self.old).next }
         ensures accepted { IsTrue result → fault self.old (request.set_policies changes.now self.old) ≡ None }

@@ -83,8 +83,8 @@ pub fn mark_ending(buckets: &[Bucket], ended: &mut [bool], remembered: &mut [usi
     }
 }
 
-// Whether no walk from the bucket comes to a cycle. Answers no after so many policies in turn, and sets the flag of each
-// bucket of which it is known.
+// Whether no walk from the bucket comes to a cycle. Answers no after so many policies in turn, and sets the flag of
+// each bucket of which it is known.
 #[cycle(ending)]
 fn bucket_ends(
     buckets: &[Bucket],

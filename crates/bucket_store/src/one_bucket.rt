@@ -17,12 +17,12 @@ use crate::{Bucket, Change};
 use cynara_keys::BucketName;
 use std::alloc::Global;
 
-/// The most changes that are made in place. Each moves the policies behind its own, so more cost less by one merge into a
-/// new list.
+/// The most changes that are made in place. Each moves the policies behind its own, so more cost less by one merge into
+/// a new list.
 pub const MOST_IN_PLACE: usize = 32;
 
-/// The place of the one bucket that the changes are about, where they are few and about one, put no policy that points to
-/// a bucket, and leave room for as many policies as they are.
+/// The place of the one bucket that the changes are about, where they are few and about one, put no policy that points
+/// to a bucket, and leave room for as many policies as they are.
 pub fn place_of_changes(alloc: Global, buckets: &[Bucket], changes: &[Change]) -> Option<usize>
     requires { IsStrictlySortedBy bucket_cmp buckets.now }
     ensures { IfSome result (ChangesOne buckets.now changes.now) }

@@ -4,16 +4,16 @@
 //!     client ENTRIES DIAL_FAILS LINKS CALLS
 //!     admin DIAL_FAILS LINKS MESSAGES
 //!
-//! `DIAL_FAILS` are numbers of dials that fail, with commas between them, or `-` for none. `LINKS` are the links that are
-//! dialled, with `/` between them or `-` for none, each `TO_COME:CLOSED_AFTER:FAILS`: the bytes to come in hexadecimal,
-//! after how many calls the link reads as closed, and the numbers of its calls that fail. Bytes to come may be parts with `+`
-//! between them, and a part `N*BYTES` stands for the bytes so many times. `CALLS`, with commas between them, are `cSQ`, a check
-//! in session `S` of question `Q`, each a letter; `sSQ`, the same where no agent is asked; and `tN`, which tells the client of
-//! commit N. `MESSAGES`, with commas between them, are frames of messages, whose sequence numbers do not matter, or `unset*N`,
-//! which is one message of so many changes.
+//! `DIAL_FAILS` are numbers of dials that fail, with commas between them, or `-` for none. `LINKS` are the links that
+//! are dialled, with `/` between them or `-` for none, each `TO_COME:CLOSED_AFTER:FAILS`: the bytes to come in
+//! hexadecimal, after how many calls the link reads as closed, and the numbers of its calls that fail. Bytes to come
+//! may be parts with `+` between them, and a part `N*BYTES` stands for the bytes so many times. `CALLS`, with commas
+//! between them, are `cSQ`, a check in session `S` of question `Q`, each a letter; `sSQ`, the same where no agent is
+//! asked; and `tN`, which tells the client of commit N. `MESSAGES`, with commas between them, are frames of messages,
+//! whose sequence numbers do not matter, or `unset*N`, which is one message of so many changes.
 //!
-//! The answer has each check's, or how many replies each message had and the last one, and then the dials, the dialler's
-//! failures, and for each link that was given back the bytes sent on it and how many bytes were received.
+//! The answer has each check's, or how many replies each message had and the last one, and then the dials, the
+//! dialler's failures, and for each link that was given back the bytes sent on it and how many bytes were received.
 #![tactic(auto)]
 
 mod answers;

@@ -222,7 +222,8 @@ fn answered_where(alloc: Global, words: &str, failing: u64) -> Result<String, Fa
     }
 }
 
-/// `commit-failing MOST COMMAND, ..`: what is answered where each call up to this number fails, from an empty folder on.
+/// `commit-failing MOST COMMAND, ..`: what is answered where each call up to this number fails, from an empty folder
+/// on.
 pub fn failing(alloc: Global, words: &str) -> Result<String, Failure> {
     let (most, words) = first_number(words)?;
     let mut runs = Runs::new(alloc);

@@ -1,5 +1,6 @@
-//! Cases of the store of a set of files, and of the policy state in a folder, over a disk in memory. Each line of input is a
-//! case, and is printed with its answer behind ` => `. A line that begins with `#` says what the lines below it are about.
+//! Cases of the store of a set of files, and of the policy state in a folder, over a disk in memory. Each line of input
+//! is a case, and is printed with its answer behind ` => `. A line that begins with `#` says what the lines below it
+//! are about.
 //!
 //!     disk FAILS FILE ..                                        the disk that later cases are about
 //!     folder, calls                                             what it holds, and which calls were made
@@ -38,7 +39,8 @@ fn answer(alloc: Global, disk: &mut MemDisk, word: &str, rest: &str) -> Result<S
     }
 }
 
-// `stops FROM` and `commit-stops FROM MOST`: what a mount finds after a stop behind each number of calls from this one on.
+// `stops FROM` and `commit-stops FROM MOST`: what a mount finds after a stop behind each number of calls from this one
+// on.
 fn found_later(alloc: Global, disk: &MemDisk, seen: Seen, words: &str) -> Result<String, Failure> {
     let (from, words) = first_number(words)?;
     let most = match seen {

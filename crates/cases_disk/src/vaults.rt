@@ -6,7 +6,7 @@ ghost use Rattle.guard_files.specs.OwnName.{is_listable as may_stand};
 use crate::stops::{Seen, seen_later};
 use cases_words::{Failure, Found, Runs, files, first_number, folder_text, put_bytes, put_file};
 use desk_ports::{FailList, FileSet, MemDisk, SetFile};
-use guard_files::{Vault, VaultRefusal, is_listable};
+use guard_files::{Mounted, Vault, VaultRefusal, is_listable, look, settle};
 use std::alloc::{AllocError, Global};
 
 type Store<'a> = Vault<'a, MemDisk>;
@@ -33,10 +33,21 @@ fn put_refusal(text: &mut String, refusal: &VaultRefusal) -> Result<(), Failure>
     }
 }
 
+// Brings the disk to rest, whatever set it holds.
+fn at_rest(alloc: Global, disk: &mut MemDisk) -> Result<Mounted, VaultRefusal> {
+    match look(alloc, disk) {
+        Ok(found) => settle(alloc, disk, found),
+        Err(refusal) => Err(refusal),
+    }
+}
+
 fn put_mount(alloc: Global, text: &mut String, disk: &mut MemDisk) -> Result<(), Failure> {
-    match Vault::mount(alloc, disk) {
-        Ok(vault) => put_set(text, vault.held()),
-        Err(left) => put_refusal(text, &left.refusal),
+    match at_rest(alloc, disk) {
+        Ok(found) => {
+            let vault = Vault::of(alloc, disk, found);
+            put_set(text, vault.held())
+        }
+        Err(refusal) => put_refusal(text, &refusal),
     }
 }
 
@@ -70,13 +81,20 @@ fn replace(vault: &mut Store, set: FileSet) -> Result<bool, Failure> {
     Ok(vault.replace(prepared).is_ok())
 }
 
+fn remount(vault: &mut Store) -> Result<(), VaultRefusal> {
+    match vault.look() {
+        Ok(found) => vault.settle(found),
+        Err(refusal) => Err(refusal),
+    }
+}
+
 // Remounts until the vault is decided, at most three times.
-fn settle(vault: &mut Store) -> Result<(), Failure> {
+fn decide(vault: &mut Store) -> Result<(), Failure> {
     for _ in 0..3 {
         if vault.is_decided() {
             return Ok(());
         }
-        match vault.remount() {
+        match remount(vault) {
             Ok(()) | Err(VaultRefusal::StoreFault) => {}
             Err(_) => return Err(Failure::Refused),
         }
@@ -84,33 +102,28 @@ fn settle(vault: &mut Store) -> Result<(), Failure> {
     Err(Failure::Refused)
 }
 
-// Replaces the held set, and settles the vault. Whether the replacement was done, which is exactly where the vault was
-// decided after it.
-fn replace_and_settle(alloc: Global, vault: &mut Store, words: &str) -> Result<bool, Failure> {
+// Replaces the held set, and remounts until the vault is decided. Whether the replacement was done, which is exactly
+// where the vault was decided after it.
+fn replace_and_decide(alloc: Global, vault: &mut Store, words: &str) -> Result<bool, Failure> {
     let is_done = replace(vault, files(alloc, words)?)?;
     if is_done != vault.is_decided() {
         return Err(Failure::Refused);
     }
-    settle(vault)?;
+    decide(vault)?;
     Ok(is_done)
 }
 
 // Mounts and replaces the held set, or says by `None` that a call of the mount failed.
 fn try_replace(alloc: Global, disk: &mut MemDisk, words: &str) -> Result<Option<bool>, Failure> {
-    match Vault::mount(alloc, disk) {
-        Ok(mut vault) => {
-            let told = replace_and_settle(alloc, &mut vault, words);
+    match at_rest(alloc, disk) {
+        Ok(found) => {
+            let mut vault = Vault::of(alloc, disk, found);
+            let told = replace_and_decide(alloc, &mut vault, words);
             drop(vault);
             Ok(Some(told?))
         }
-        Err(left) => {
-            let has_failed = matches!(&left.refusal, VaultRefusal::StoreFault);
-            drop(left);
-            if has_failed {
-                return Ok(None);
-            }
-            Err(Failure::Refused)
-        }
+        Err(VaultRefusal::StoreFault) => Ok(None),
+        Err(_) => Err(Failure::Refused),
     }
 }
 

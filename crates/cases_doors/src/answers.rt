@@ -1,17 +1,10 @@
 // Answers of a hall, from words.
-use crate::desks::{metadata_of, question_of};
+use crate::desks::{metadata_of, number_of, question_of};
 use agent_table::{AnswerRefusal, Asked, PutRefusal, RegisterRefusal, Taken};
 use cases_words::Failure;
 use cynara_keys::Kind;
 use server_hall::{AskRefusal, HallAnswer, NextRefusal};
 use std::alloc::{AllocError, Global};
-
-fn number_of(word: &str) -> Result<u32, Failure> {
-    match word.parse::<u32>() {
-        Ok(number) => Ok(number),
-        Err(_) => Err(Failure::Words),
-    }
-}
 
 fn taken(
     alloc: Global,

@@ -16,15 +16,12 @@ use std::alloc::Global;
 use std::marker::Brand;
 use std::sync::Wait;
 
-/// A conversation at the door for clients, with one seat.
-pub fn conversation<R: Wait>(
-    rt: &R,
-    alloc: Global,
-    policies: &str,
-    answers: &str,
-    link: &str,
-    bytes: &str,
-) -> Result<String, Failure> {
+/// A conversation at the door for clients, of these words, with one seat.
+pub fn answered<R: Wait>(rt: &R, alloc: Global, words: &str) -> Result<String, Failure> {
+    let parts: Vec<&str> = words.split('|').collect(alloc)?;
+    let [policies, answers, link, bytes] = parts.as_slice() else {
+        return Err(Failure::Words);
+    };
     let desk = desk_of(alloc, policies)?;
     over_desk(rt, alloc, &desk, answers, link, bytes)
 }

@@ -5,6 +5,14 @@ use cynara_keys::{BucketName, Field, Key, Kind, Metadata, Name, PolicyResult, Qu
 use desk_state::{Command, Desk};
 use std::alloc::Global;
 
+/// The number of a word.
+pub fn number_of(word: &str) -> Result<u32, Failure> {
+    match word.parse::<u32>() {
+        Ok(number) => Ok(number),
+        Err(_) => Err(Failure::Words),
+    }
+}
+
 /// The kind of a word.
 pub fn kind_of(word: &str) -> Result<Kind, Failure> {
     match word.parse::<u16>() {

@@ -1,25 +1,11 @@
 // How connections ended, and what stands then, as texts.
+use cases_outside::put_hex;
 use cases_words::Failure;
 use cynara_keys::Question;
 use door_frames::Ended;
 use link_ports::MemEnd;
 use server_hall::ListHall;
 use std::alloc::{AllocError, Global};
-
-const DIGITS: &[u8; 16] = b"0123456789abcdef";
-
-fn put_byte(text: &mut String, byte: u8) -> Result<(), AllocError> {
-    text.push(char::from(DIGITS[(byte >> 4) as usize]))?;
-    text.push(char::from(DIGITS[(byte & 15) as usize]))
-}
-
-/// Adds bytes, two digits each.
-pub fn put_hex(text: &mut String, bytes: &[u8]) -> Result<(), AllocError> {
-    for byte in bytes {
-        put_byte(text, *byte)?;
-    }
-    Ok(())
-}
 
 fn put_question(text: &mut String, found: &Option<Question>) -> Result<(), AllocError> {
     match found {

@@ -1,6 +1,6 @@
 // Messages that are heard: the frame of a message in one piece and byte by byte.
 ghost use Rattle.std.specs.Prelude.{◌≡◌, ◌+◌, ◌≤◌, length};
-ghost use Rattle.wire_messages.specs.Frame.{length_of};
+ghost use Rattle.wire_reading.specs.Frame.{length_of};
 
 use cases_words::{Failure, put_ok, put_some};
 use desk_ports::Bytes;

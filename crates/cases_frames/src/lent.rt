@@ -86,8 +86,8 @@ fn put_judged(frame: &mut Bytes, commit: u64, message: &Message) -> Result<(), F
     }
 }
 
-/// What a reply says that is spelled from the one policy of a `SetPolicies`, or from the fallback of a `SetBucket`, which
-/// decides at a commit.
+/// What a reply says that is spelled from the one policy of a `SetPolicies`, or from the fallback of a `SetBucket`,
+/// which decides at a commit.
 pub fn judged(alloc: Global, commit: u32, frame: &[u8]) -> Result<String, Failure> {
     let list = decoded(alloc, Heard::AtAdmin, frame)?;
     let [framed] = list.as_slice() else {

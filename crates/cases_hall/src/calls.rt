@@ -123,8 +123,8 @@ pub fn behind_a_commit<R: Wait + Clock + Drop, J: Naming>(
     ).ok()
 }
 
-/// A connection enters behind the publication of a state and before the hang-up: it is told the commit before, is answered at
-/// the new one, and is hung up as those are that entered before.
+/// A connection enters behind the publication of a state and before the hang-up: it is told the commit before, is
+/// answered at the new one, and is hung up as those are that entered before.
 pub fn between_publication_and_hang_up<R: Wait, W: Wait + Clock + Drop, J: Naming>(
     rt: &R,
     alloc: Global,

@@ -23,8 +23,8 @@ struct Watch {
 }
 
 impl Watch {
-    // An answer to a connection that entered at this commit is wrong where it doesn't say its own commit, or that one is
-    // below the one entered at or below that of an earlier answer.
+    // An answer to a connection that entered at this commit is wrong where it doesn't say its own commit, or that one
+    // is below the one entered at or below that of an earlier answer.
     fn note(&mut self, entered: u64, answer: Option<u64>) {
         let Some(commit) = answer else {
             self.wrong = self.wrong.saturating_add(1);
@@ -44,8 +44,8 @@ impl Watch {
     }
 }
 
-/// Four seats check on threads of their own, each over a connection after the other, until they are answered at the last
-/// commit, while a publisher publishes 200 states and hangs the connections up.
+/// Four seats check on threads of their own, each over a connection after the other, until they are answered at the
+/// last commit, while a publisher publishes 200 states and hangs the connections up.
 pub fn on_threads<R: Wait + Threads + Sync, J: Naming + Send + Sync>(
     rt: &R,
     alloc: Global,
@@ -77,8 +77,8 @@ impl<J: Naming> Watcher for Seat<J> {
     }
 }
 
-// The threads know a seat by its type's parameter alone: what it is made of is too much for the proof of each that it may go
-// to another thread.
+// proof: the threads know a seat by its type's parameter alone; what it is made of is too much for the proof of each
+// that it may go to another thread.
 fn by_four<W: Watcher + Send + Drop, R: Wait + Threads + Sync, J: Naming>(
     rt: &R,
     alloc: Global,

@@ -25,8 +25,8 @@ pub fn at_roll<R: Wait, J: Naming>(
     told
 }
 
-// What the case calls is told of a service, and of two links that are `a` and `b`. The links are known by a type
-// parameter alone: what they are made of is too much for the proof of each case.
+// What the case calls is told of a service, and of two links that are `a` and `b`.
+// proof: the links are known by a type parameter alone; what they are made of is too much for the proof of each case.
 fn tell<J: Naming, R: Wait, L: Link>(
     rt: &R,
     alloc: Global,

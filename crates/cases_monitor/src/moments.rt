@@ -2,8 +2,8 @@
 use check_monitor::Moment;
 use std::alloc::{AllocError, Global};
 
-/// Moments whose seconds since 1970 are known from elsewhere: the first and the last of them, days around leap days, and one
-/// that is too late.
+/// Moments whose seconds since 1970 are known from elsewhere: the first and the last of them, days around leap days,
+/// and one that is too late.
 pub fn moments(alloc: Global) -> Result<String, AllocError> {
     let mut told = String::new(alloc);
     for seconds in [

@@ -22,8 +22,8 @@ pub fn record_denied<R: Wait>(
     recorder.record(rt, Some(morning()), asked, &denied(commit))
 }
 
-/// Records a check that an agent of the kind allowed at this commit, to which a policy of the bucket B had left it. No clock told
-/// the time.
+/// Records a check that an agent of the kind allowed at this commit, to which a policy of the bucket B had left it. No
+/// clock told the time.
 pub fn allow_by_agent<R: Wait>(
     rt: &R,
     recorder: &mut Recorder,

@@ -11,8 +11,8 @@ use cynara_keys::Question;
 use std::alloc::{AllocError, Global};
 use std::sync::Wait;
 
-/// Two workers share a queue with room for two entries. What doesn't fit is missed, and what is left is handed out at the
-/// end.
+/// Two workers share a queue with room for two entries. What doesn't fit is missed, and what is left is handed out at
+/// the end.
 pub fn full_and_settled<R: Wait>(rt: &R, alloc: Global) -> Result<String, AllocError> {
     let (recorders, reader) = open(alloc, 2, 2)?;
     two_record(rt, alloc, recorders, reader).ok_or(AllocError)

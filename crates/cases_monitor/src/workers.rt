@@ -23,9 +23,9 @@ const FEW: u64 = 1_000;
 /// The room for few.
 const NARROW: u32 = 64;
 
-/// Four workers record 2,000 checks each into a queue with room for 64, while the reader takes entries; the rest is handed
-/// out once they have ended. Each check of a worker was handed out once, in its order, or missed; and the first 64 that
-/// come find room, whosever they are.
+/// Four workers record 2,000 checks each into a queue with room for 64, while the reader takes entries; the rest is
+/// handed out once they have ended. Each check of a worker was handed out once, in its order, or missed; and the first
+/// 64 that come find room, whosever they are.
 pub fn room_for_few<R: Wait + Threads + Sync>(rt: &R, alloc: Global) -> Result<String, AllocError> {
     let (recorders, reader) = open(alloc, 4, NARROW)?;
     let asked = question(alloc, b"c", b"u", b"p").ok_or(AllocError)?;

@@ -21,8 +21,8 @@ impl CutLink {
         CutLink::over(alloc, words, frame_bytes(alloc, bytes)?)
     }
 
-    /// The link of these words, over which these bytes are to come: after how many calls it reads as closed, which calls
-    /// fail, and into which sizes the bytes are cut, each with commas, or `-` for none.
+    /// The link of these words, over which these bytes are to come: after how many calls it reads as closed, which
+    /// calls fail, and into which sizes the bytes are cut, each with commas, or `-` for none.
     pub fn over(alloc: Global, words: &str, bytes: Vec<u8>) -> Result<CutLink, Failure> {
         let parts: Vec<&str> = words.trim().split(' ').collect(alloc)?;
         let [closed_after, failing, sizes] = parts.as_slice() else {

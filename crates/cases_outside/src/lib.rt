@@ -1,5 +1,5 @@
-//! What programs of cases speak with, from words: links in memory whose bytes come in pieces, links with names, over which a
-//! case speaks, and a disk in memory on which files are found absent, or in part.
+//! What programs of cases speak with, from words: links in memory whose bytes come in pieces, links with names, over
+//! which a case speaks, and a disk in memory on which files are found absent, or in part.
 #![tactic(auto)]
 
 mod cut_links;

@@ -62,8 +62,9 @@ impl<L: Link + Drop> NamedLinks<L> {
         Ok(())
     }
 
-    /// `X>` sends the bytes of a frame over the link of the name X, `X<` receives a frame and adds it to the text, or `end` or
-    /// `cut` where the input ends before or within it, or `long` where it has too many bytes, and `X-` lets the link go. It may wait for a frame.
+    /// `X>` sends the bytes of a frame over the link of the name X, `X<` receives a frame and adds it to the text, or
+    /// `end` or `cut` where the input ends before or within it, or `long` where it has too many bytes, and `X-` lets
+    /// the link go. It may wait for a frame.
     pub fn speak(
         &mut self,
         alloc: Global,

@@ -51,8 +51,8 @@ impl<'a, W: Wait + Clock + Copy + Drop, L: Link> Link for HeardLink<'a, W, L> {
     }
 }
 
-/// Runs an agent by the words `KIND ANSWER`, once it is called, until its link ends: how it ended, and what it wrote. Nothing
-/// where there are no words.
+/// Runs an agent by the words `KIND ANSWER`, once it is called, until its link ends: how it ended, and what it wrote.
+/// Nothing where there are no words.
 pub fn run<R: Wait, W: Wait + Clock + Copy + Drop, N: Dial>(
     rt: &R,
     alloc: Global,

@@ -73,6 +73,7 @@ pub struct HoldingGate<W: Wait + Clock + Copy + Drop> {
 }
 
 impl<W: Wait + Clock + Copy + Drop> HoldingGate<W> {
+    /// A gate that nobody has entered. `holds` says whether it holds the first connection that enters.
     pub fn new(rt: W, holds: bool) -> HoldingGate<W> {
         HoldingGate {
             holds,

@@ -26,6 +26,8 @@ pub struct People<N: Dial> {
 const ENTRIES: u32 = 8;
 
 impl<N: Dial + Drop> People<N> {
+    /// People who dial `net` for links of their own, with a client that dials its own net. Fails only for want of
+    /// memory.
     pub fn new(alloc: Global, net: N, client: N) -> Result<People<N>, AllocError> {
         let client = Client::new(alloc, client, ENTRIES)?;
         Ok(People {

@@ -5,7 +5,7 @@ use crate::gates::HoldingGate;
 use crate::people::People;
 use cases_words::{Failure, fails, files, first_number, first_word, put_word};
 use desk_ports::{Disk, MemDisk};
-use door_workers::Unheard;
+use desk_server::Unheard;
 use joined_net::JoinedNet;
 use link_ports::{Dial, Door, Gate, Link, Net};
 use run_endings::Ending;

@@ -21,6 +21,7 @@ const MOST: usize = 4;
 const MOST_BYTES: usize = 64;
 
 impl Places {
+    /// Four empty places of each kind. Fails only for want of memory.
     pub fn new(alloc: Global) -> Result<Places, AllocError> {
         Ok(Places {
             nets: empty(alloc)?,
@@ -30,26 +31,32 @@ impl Places {
         })
     }
 
+    /// The net at the place of this number, where one stands there. A word that is no number means place 0.
     pub fn net(&mut self, word: &str) -> Option<&mut SocketNet<HostRuntime>> {
         self.nets.get_mut(number(word))?.as_mut()
     }
 
+    /// The link at the place of this number, where one stands there.
     pub fn link(&mut self, word: &str) -> Option<&mut SocketLink<HostRuntime>> {
         self.links.get_mut(number(word))?.as_mut()
     }
 
+    /// Takes the door out of the place of this number, where one stands there.
     pub fn take_door(&mut self, word: &str) -> Option<SocketDoor<HostRuntime>> {
         self.doors.get_mut(number(word))?.take()
     }
 
+    /// Takes the link out of the place of this number, where one stands there.
     pub fn take_link(&mut self, word: &str) -> Option<SocketLink<HostRuntime>> {
         self.links.get_mut(number(word))?.take()
     }
 
+    /// Takes the end of a link out of the place of this number, where one stands there.
     pub fn take_end(&mut self, word: &str) -> Option<SocketEnd> {
         self.ends.get_mut(number(word))?.take()
     }
 
+    /// Puts a door in the place of this number, which lets go the one that stood there.
     pub fn put_door(&mut self, word: &str, door: SocketDoor<HostRuntime>) {
         put(&mut self.doors, word, Some(door));
     }

@@ -11,6 +11,7 @@ pub struct Words<'a> {
 }
 
 impl<'a> Words<'a> {
+    /// The first four words of a line, split at single spaces. One that the line lacks is empty.
     pub fn of(line: &'a str) -> Words<'a> {
         let mut words = line.split(' ');
         Words {

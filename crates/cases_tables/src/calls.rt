@@ -180,8 +180,8 @@ fn numbered(
 }
 
 /// What the table answers to a call: `new`, `from NUMBER`, `register KIND`, `register-all`,
-/// `put KIND CLIENT USER PRIVILEGE METADATA`, `put-many KIND COUNT ..`, `next KIND`, `answer KIND NUMBER allow` or `deny`,
-/// `take NUMBER`, `awaits NUMBER`, `withdraw NUMBER`, `leave KIND`, `stop`, `stopped`.
+/// `put KIND CLIENT USER PRIVILEGE METADATA`, `put-many KIND COUNT ..`, `next KIND`, `answer KIND NUMBER allow` or
+/// `deny`, `take NUMBER`, `awaits NUMBER`, `withdraw NUMBER`, `leave KIND`, `stop`, `stopped`.
 pub fn call(table: &mut Questions, alloc: Global, words: &str) -> Result<String, Failure> {
     let (word, rest) = first_word(words);
     if word == "new" {

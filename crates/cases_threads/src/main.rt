@@ -1,13 +1,13 @@
-//! A service's serving calls, each on a thread of its own, over links that join them with those who speak. Each line of standard
-//! input is a case, and each line of the output that case with its answer behind ` => `. A blank line, and one that begins with
-//! `#`, is printed as it is.
+//! A service's serving calls, each on a thread of its own, over links that join them with those who speak. Each line of
+//! standard input is a case, and each line of the output that case with its answer behind ` => `. A blank line, and one
+//! that begins with `#`, is printed as it is.
 //!
 //!     FILES | STEP; STEP; ..
 //!
-//! Two connections of clients, `x` and `y`, one of an agent, `a`, and one of an administrator, `m`, are served over a folder with
-//! these files, each `NAME=BYTES` with `\n` and `\s` for a newline and a space, or `-` for none. `X> BYTES` sends a frame over
-//! the connection X, in digits and quoted texts, `X<` reads a frame, and `X-` lets the connection go; all go at the end. The
-//! answer has the frames that were read, and then how the four connections ended.
+//! Two connections of clients, `x` and `y`, one of an agent, `a`, and one of an administrator, `m`, are served over a
+//! folder with these files, each `NAME=BYTES` with `\n` and `\s` for a newline and a space, or `-` for none. `X> BYTES`
+//! sends a frame over the connection X, in digits and quoted texts, `X<` reads a frame, and `X-` lets the connection
+//! go; all go at the end. The answer has the frames that were read, and then how the four connections ended.
 #![tactic(auto)]
 
 mod endings;

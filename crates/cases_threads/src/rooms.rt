@@ -45,8 +45,8 @@ fn with_keeper<D: Disk, R: Threads + Wait + Sync + Clock>(
     with_keeper_named::<Brand, D, R>(rt, alloc, Opened::new(), keeper, &steps)
 }
 
-// The same, over a list of states that the caller picks. The prover offers no pick for a function that takes a `&str`:
-// the steps are lent as a `String`.
+// The same, over a list of states that the caller picks.
+// proof: the steps are lent as a `String`; the prover offers no pick for a function that takes a `&str`.
 fn with_keeper_named<J: Naming + Send + Sync, D: Disk, R: Threads + Wait + Sync + Clock>(
     rt: &R,
     alloc: Global,

@@ -152,8 +152,8 @@ where
     Ok(told)
 }
 
-/// Serves the connections `x` and `y` of clients, `a` of an agent and `m` of an administrator, each on a thread of its own,
-/// while those who speak do the steps. What was read, and how each ended.
+/// Serves the connections `x` and `y` of clients, `a` of an agent and `m` of an administrator, each on a thread of its
+/// own, while those who speak do the steps. What was read, and how each ended.
 pub fn all<
     S: Place + Send + Drop,
     L: Link + Send + Drop,

@@ -11,6 +11,7 @@ pub struct Found {
 const LETTERS: [&str; 8] = ["a", "b", "c", "d", "e", "f", "g", "h"];
 
 impl Found {
+    /// No texts yet. Takes no memory.
     pub fn new(alloc: Global) -> Found {
         Found {
             texts: Vec::new(alloc),
@@ -59,6 +60,7 @@ pub struct Runs {
 }
 
 impl Runs {
+    /// No answers yet. Takes no memory.
     pub fn new(alloc: Global) -> Runs {
         Runs {
             text: String::new(alloc),

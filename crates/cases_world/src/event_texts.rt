@@ -7,8 +7,8 @@
 //
 // with `; ` between them. C is a client, L a link, E an entry of a cache, N a number, K the number of a kind, KEEP is
 // `keep` or `drop`, ANSWER is `allow` or `deny`. Q is a privilege, which the client `c` asks to use for the user `u`.
-// P is a command: `set PRIVILEGE K` sets a policy for everyone in the root bucket, and `drop-root` is refused by a rule.
-// A word that is no number where one is read stands for the greatest one.
+// P is a command: `set PRIVILEGE K` sets a policy for everyone in the root bucket, and `drop-root` is refused by a
+// rule. A word that is no number where one is read stands for the greatest one.
 use bucket_store::{Change, Changes};
 use cases_words::Failure;
 use cynara_keys::{BucketName, Field, Key, Kind, Metadata, Name, PolicyResult, Question};
@@ -41,8 +41,8 @@ fn kind(words: &[&str], at: usize) -> Kind {
     }
 }
 
-// Both values, or the first failure. Taking them one after another by `?` would let go of those before at each end, which is dear
-// to prove.
+// Both values, or the first failure. Taking them one after another by `?` would let go of those before at each end,
+// which is dear to prove.
 fn both<A: Drop, B: Drop>(
     one: Result<A, Failure>,
     other: Result<B, Failure>,

@@ -1,7 +1,7 @@
-//! Cases of the policy service as a machine over events. Each line of standard input is a list of events, in the form of
-//! `event_texts`, and each line of the output that list with what it leads to behind ` => `. A line that begins with `#`
-//! says what the lines below it are about. What stands behind ` => ` in a line of the input is passed over, so that an output
-//! is an input too.
+//! Cases of the policy service as a machine over events. Each line of standard input is a list of events, in the form
+//! of `event_texts`, and each line of the output that list with what it leads to behind ` => `. A line that begins with
+//! `#` says what the lines below it are about. What stands behind ` => ` in a line of the input is passed over, so that
+//! an output is an input too.
 #![tactic(auto)]
 
 mod event_texts;

@@ -19,7 +19,8 @@ use Rattle.check_monitor.specs.declared.recorders.Decided.{Decided}
 use Rattle.check_monitor.specs.declared.recording.Recorded.{Recorded}
 use Rattle.check_monitor.specs.declared.recording.Recorded.TheVariants.{Put, Full, Spent}
 
--- a recorder: its queue, and how many entries that has room for; its worker, what it put, and how many checks were missed
+-- a recorder: its queue, and how many entries that has room for; its worker, what it put, and how many checks were
+-- missed
 pub record RecorderState : Type 0 where
   pub queue : TableId
   pub room : ℕ
@@ -50,8 +51,8 @@ new_reader_of queue room made = record { queue = queue; room = room; made = made
 abbrev pub with_one_recorder : ReaderState → ReaderState
 with_one_recorder reader = record reader { made = suc reader.made }
 
--- The entry of a check that was decided: recorded at this time, under this commit, by an agent of a kind or by the policies, as ALLOW
--- or not, for this cause.
+-- The entry of a check that was decided: recorded at this time, under this commit, by an agent of a kind or by the
+-- policies, as ALLOW or not, for this cause.
 abbrev pub entry_at : ℕ → ℕ → Question → Option Moment → ℕ → Option Kind → Bool → Cause → Entry
 entry_at worker number question time commit agent allowed cause = record {
   worker = worker;
@@ -82,8 +83,8 @@ with_entry entry recorder = record recorder { put = recorder.put ++ entry ∷ []
 abbrev pub with_miss : RecorderState → RecorderState
 with_miss recorder = record recorder { missed = next_count recorder.missed }
 
--- At one moment of the call the queue held as many entries as it may. What the recorder had put was what there was of its
--- worker among what was handed out and those.
+-- At one moment of the call the queue held as many entries as it may. What the recorder had put was what there was of
+-- its worker among what was handed out and those.
 abbrev pub WasFull : RecorderState → Type 0
 WasFull recorder = Held recorder.room
     (λ items. (handed : List Entry) × (recorder.put ≡ of_worker recorder.worker (handed ++ items)))
@@ -100,7 +101,8 @@ Records old entry (Spent missed) new =
 -- the entry was handed out; its number is the count of its worker's entries that were handed out before
 abbrev pub HandsOut : ReaderState → Entry → ReaderState → Type 0
 HandsOut old entry new =
-    (new ≡ record old { handed = old.handed ++ entry ∷ [] }) × (entry.number ≡ length (of_worker entry.worker old.handed))
+    (new ≡ record old { handed = old.handed ++ entry ∷ [] })
+    × (entry.number ≡ length (of_worker entry.worker old.handed))
 
 -- the recorders are of this queue
 abbrev pub AreOf : TableId → List RecorderState → Type 0

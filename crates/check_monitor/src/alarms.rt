@@ -10,8 +10,8 @@ const AWAKE: u64 = 0;
 /// The thread sleeps, or is about to.
 const ASLEEP: u64 = 1;
 
-/// What wakes one thread that waits for work, and how many checks were missed in all. While that thread is awake, a ring costs a
-/// look at a number.
+/// What wakes one thread that waits for work, and how many checks were missed in all. While that thread is awake, a
+/// ring costs a look at a number.
 #[derive(Drop)]
 pub struct Alarm {
     ear: AtomicU64,

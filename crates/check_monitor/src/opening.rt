@@ -14,8 +14,8 @@ pub const MOST_WORKERS: u32 = 64;
 /// How many entries the queue may have room for.
 pub const MOST_ROOM: u32 = 4_096;
 
-/// A recorder for each worker, numbered from 0, and the reader of what they put, over a queue with room for so many entries.
-/// Fails for want of memory alone. No other call of the monitor takes any.
+/// A recorder for each worker, numbered from 0, and the reader of what they put, over a queue with room for so many
+/// entries. Fails for want of memory alone. No other call of the monitor takes any.
 pub fn open(alloc: Global, workers: u32, room: u32) -> Result<(Vec<Recorder>, Reader), AllocError>
     requires workers { (0 < workers) × (workers ≤ 64) }
     requires room { (0 < room) × (room ≤ 4096) }
@@ -38,7 +38,8 @@ fn recorders_of(
     workers: u32,
 ) -> Result<Vec<Recorder>, AllocError>
     requires made { 0 ≡ reader.old.made }
-    ensures recorders { IfOk result (λ recorders. recorders.items ≡ new_recorders reader.old.queue reader.old.room workers) }
+    ensures recorders { IfOk result
+        (λ recorders. recorders.items ≡ new_recorders reader.old.queue reader.old.room workers) }
     ensures reader { OnOk result (reader.new ≡ record reader.old { made = workers }) }
 {
     let mut recorders = Vec::with_capacity(alloc, workers as usize)?;

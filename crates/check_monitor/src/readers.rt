@@ -2,7 +2,8 @@ ghost use Rattle.std.specs.Prelude.{◌≡◌, ◌<◌, ◌++◌, true, false, I
 ghost use Rattle.std.specs.Arc.{arc_value};
 ghost use Rattle.crossbeam_queue.specs.Passes.{view, IsPassOf, ruled_capacity};
 ghost use Rattle.monitor_rule.specs.Steps.{new_reader, AreKnown};
-ghost use Rattle.check_monitor.specs.Monitor.{HandsOut, AreOf, Cover, AreWhole, new_reader_of, new_recorder_of, with_one_recorder, with_joined_all};
+ghost use Rattle.check_monitor.specs.Monitor.{HandsOut, AreOf, Cover, AreWhole};
+ghost use Rattle.check_monitor.specs.Monitor.{new_reader_of, new_recorder_of, with_one_recorder, with_joined_all};
 
 use crate::alarms::Alarm;
 use crate::recorders::Recorder;
@@ -69,8 +70,8 @@ impl Reader {
         Arc::try_clone(&self.alarm)
     }
 
-    /// The oldest entry in the queue: of a worker that has a recorder, with the count of its worker's entries that were handed
-    /// out before as its number. None only where the queue was empty at a moment of the call. Takes no memory.
+    /// The oldest entry in the queue: of a worker that has a recorder, with the count of its worker's entries that were
+    /// handed out before as its number. None only where the queue was empty at a moment of the call. Takes no memory.
     pub fn next<R: Wait>(&mut self, rt: &R) -> Option<Entry>
         ensures some { IfSome result (λ entry. HandsOut self.old entry self.new) }
         ensures known { IfSome result (λ entry. entry.worker < self.old.made) }
@@ -79,8 +80,9 @@ impl Reader {
         self.queue.pop_as::<Takes, R>(rt, &mut self.pass)
     }
 
-    /// Takes in the recorders, which are all those that were made with this reader. What each of them put are its worker's
-    /// entries that were handed out and then those that are left; and nothing of any other worker is left. Takes no memory.
+    /// Takes in the recorders, which are all those that were made with this reader. What each of them put are its
+    /// worker's entries that were handed out and then those that are left; and nothing of any other worker is left.
+    /// Takes no memory.
     pub fn settle<R: Wait>(self, rt: &R, recorders: Vec<Recorder>) -> Settled
         requires queue { AreOf self.queue recorders.items }
         requires all { Cover self.made recorders.items }

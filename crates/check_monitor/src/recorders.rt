@@ -3,7 +3,8 @@ ghost use Rattle.std.specs.Arc.{arc_value};
 ghost use Rattle.crossbeam_queue.specs.Passes.{view, IsPassOf, ruled_capacity};
 ghost use Rattle.monitor_rule.specs.Entries.{entry_of};
 ghost use Rattle.monitor_rule.specs.Steps.{account_of, new_recorder};
-ghost use Rattle.check_monitor.specs.Monitor.{IsDecided, IsSame, Records, account_in, entry_of_decided, new_recorder_of, with_miss};
+ghost use Rattle.check_monitor.specs.Monitor.{IsDecided, IsSame, Records, account_in};
+ghost use Rattle.check_monitor.specs.Monitor.{entry_of_decided, new_recorder_of, with_miss};
 
 use crate::alarms::Alarm;
 use crate::recording::Recorded;
@@ -18,8 +19,9 @@ use std::sync::{Arc, Wait};
 /// How many entries a recorder puts at most, so that 64 recorders together never put more than a queue can number.
 pub const MOST_PUT: u64 = 72_057_594_037_927_936;
 
-/// A decision that is recorded: when, where the clock told; the commit of the policies; the kind of the agent that gave the answer,
-/// or none where the policies gave it; whether it is ALLOW; and the policy or fallback that gave it, or that left it to the agent.
+/// A decision that is recorded: when, where the clock told; the commit of the policies; the kind of the agent that gave
+/// the answer, or none where the policies gave it; whether it is ALLOW; and the policy or fallback that gave it, or
+/// that left it to the agent.
 #[derive(Clone, Copy)]
 pub struct Decided<'a> {
     pub time: Option<Moment>,
@@ -85,10 +87,10 @@ impl Recorder {
         }
     }
 
-    /// Records a check that the policies decided at this time: puts its entry, with the count of what was put before as its number;
-    /// or counts it as missed, where the queue held as many entries as it may at a moment of the call, or where the
-    /// recorder has put 72,057,594,037,927,936 entries. It wakes the reader's thread where that waits. Takes no memory.
-    /// Waits for nobody but for threads that are within a step of the queue.
+    /// Records a check that the policies decided at this time: puts its entry, with the count of what was put before as
+    /// its number; or counts it as missed, where the queue held as many entries as it may at a moment of the call, or
+    /// where the recorder has put 72,057,594,037,927,936 entries. It wakes the reader's thread where that waits. Takes
+    /// no memory. Waits for nobody but for threads that are within a step of the queue.
     pub fn record<R: Wait>(
         &mut self,
         rt: &R,
@@ -97,7 +99,8 @@ impl Recorder {
         verdict: &Verdict,
     ) -> Recorded
         requires { IsDecided verdict.now }
-        ensures recorded { Records self.old (entry_of self.old.worker (length self.old.put) time question.now verdict.now) result self.new }
+        ensures recorded { Records self.old
+            (entry_of self.old.worker (length self.old.put) time question.now verdict.now) result self.new }
         ensures same { IsSame self.old self.new }
     {
         let decided = Decided {
@@ -117,7 +120,8 @@ impl Recorder {
         question: &Question,
         decided: Decided<'_>,
     ) -> Recorded
-        ensures recorded { Records self.old (entry_of_decided self.old.worker (length self.old.put) question.now decided.entry) result self.new }
+        ensures recorded { Records self.old
+            (entry_of_decided self.old.worker (length self.old.put) question.now decided.entry) result self.new }
         ensures same { IsSame self.old self.new }
     {
         if self.made >= MOST_PUT {

@@ -1,7 +1,7 @@
 -- What the exports answer, as numbers. A C header has the same.
 use Rattle.std.specs.Prelude.{ℕ}
-use Rattle.wire_messages.specs.declared.messages.Message.{Message}
-use Rattle.wire_messages.specs.declared.messages.Message.TheVariants as message
+use Rattle.wire_fields.specs.declared.messages.Message.{Message}
+use Rattle.wire_fields.specs.declared.messages.Message.TheVariants as message
 use Rattle.client_core.specs.declared.steps.Step.{Step}
 use Rattle.client_core.specs.declared.steps.Step.TheVariants as step
 use Rattle.client_core.specs.declared.steps.Fault.{Fault}

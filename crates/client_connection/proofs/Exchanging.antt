@@ -2,10 +2,10 @@
 use Rattle.std.proofs.Common.{◌≡◌, ◌∙◌, List, [], ℕ, Option, Some, Result, Ok, Err, refl, sym, ap, inl, inr, append-nil}
 use Rattle.link_ports.specs.Told.{KeepsTold, ChangesTold}
 use Rattle.link_ports.specs.Traffic.{Traffic, with_received, with_sent}
-use Rattle.wire_messages.specs.Stream.{IsOpen, first_of}
-use Rattle.wire_messages.specs.declared.messages.Framed.{Framed}
-use Rattle.wire_messages.specs.declared.operations.Heard.{Heard}
-use Rattle.wire_messages.specs.declared.operations.Heard.TheVariants.{Replies}
+use Rattle.wire_reading.specs.Stream.{IsOpen, first_of}
+use Rattle.wire_fields.specs.declared.messages.Framed.{Framed}
+use Rattle.wire_fields.specs.declared.operations.Heard.{Heard}
+use Rattle.wire_fields.specs.declared.operations.Heard.TheVariants.{Replies}
 use Rattle.client_connection.specs.Reading.{Receives}
 use Rattle.client_connection.specs.Exchange.{IsSent, Exchanges}
 use Rattle.client_connection.specs.declared.faults.Broken.{Broken}

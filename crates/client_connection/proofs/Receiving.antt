@@ -3,11 +3,11 @@ use Rattle.std.proofs.Common.{◌≡◌, ◌<◌, ◌∙◌, ℕ, List, [], ◌+
 use Rattle.link_ports.specs.Told.{IfTold, KeepsTold, ChangesTold}
 use Rattle.link_ports.specs.Traffic.{Traffic, with_received}
 use Rattle.link_ports.specs.LinkMarks.{LinkMarks}
-use Rattle.wire_messages.specs.Stream.{Feeding, unfed}
-use Rattle.wire_messages.specs.declared.messages.Framed.{Framed}
-use Rattle.wire_messages.specs.declared.operations.Heard.{Heard}
-use Rattle.wire_messages.specs.declared.operations.Heard.TheVariants.{Replies}
-use Rattle.wire_messages.specs.declared.refusals.WireRefusal.{WireRefusal}
+use Rattle.wire_reading.specs.Stream.{Feeding, unfed}
+use Rattle.wire_fields.specs.declared.messages.Framed.{Framed}
+use Rattle.wire_fields.specs.declared.operations.Heard.{Heard}
+use Rattle.wire_fields.specs.declared.operations.Heard.TheVariants.{Replies}
+use Rattle.wire_fields.specs.declared.refusals.WireRefusal.{WireRefusal}
 use Rattle.client_connection.specs.Reading.{IsRead, Receives}
 use Rattle.client_connection.specs.Coming.{Comes}
 use Rattle.client_connection.specs.parts.Pieces.{HearsPiece, TakesPiece}

@@ -3,14 +3,14 @@ use Rattle.std.proofs.Common.{◌≡◌, ◌∙◌, ℕ, ◌+◌, ◌-◌, ◌<�
 use Rattle.std.specs.Int.{w32, from_be_bytes}
 use Rattle.std.proofs.lemmas.Bool.{ltb-true, ltb-false, le-ltb}
 use Rattle.std.proofs.lemmas.List.{length-append, length-drop, take-append-le}
-use Rattle.wire_messages.specs.declared.messages.Framed.{Framed}
-use Rattle.wire_messages.specs.declared.operations.Heard.{Heard}
-use Rattle.wire_messages.specs.declared.refusals.WireRefusal.{WireRefusal}
-use Rattle.wire_messages.specs.declared.refusals.WireRefusal.TheVariants.{TooShort, TooLong}
-use Rattle.wire_messages.specs.Frame.{length_of, length_fault, frame_of}
-use Rattle.wire_messages.specs.Stream.{Partial, Whole, front_of, with_length, first_of, wanted, Hears, IsOpen}
-use Rattle.wire_messages.proofs.Settling.{open_bound}
-use Rattle.wire_messages.proofs.Hearings.{framed_spelt}
+use Rattle.wire_fields.specs.declared.messages.Framed.{Framed}
+use Rattle.wire_fields.specs.declared.operations.Heard.{Heard}
+use Rattle.wire_fields.specs.declared.refusals.WireRefusal.{WireRefusal}
+use Rattle.wire_fields.specs.declared.refusals.WireRefusal.TheVariants.{TooShort, TooLong}
+use Rattle.wire_reading.specs.Frame.{length_of, length_fault, frame_of}
+use Rattle.wire_reading.specs.Stream.{Partial, Whole, front_of, with_length, first_of, wanted, Hears, IsOpen}
+use Rattle.wire_reading.proofs.Settling.{open_bound}
+use Rattle.wire_reading.proofs.Hearings.{framed_spelt}
 use Rattle.client_connection.specs.Reading.{size_by, size_of, IsRead}
 use Rattle.client_connection.specs.declared.faults.Broken.{Broken}
 use Rattle.client_connection.specs.declared.faults.Broken.TheVariants.{Lost, Wrong}
@@ -45,6 +45,19 @@ open_right heard bytes long is =
         → with_length heard bytes (length_of bytes + 4) fault ≡ Partial → length_fault (length_of bytes) ≡ None
     right (Some fault) of_length e = absurd cc
     right None of_length e = of_length
+
+-- some bytes are wanted as long as a frame is not whole
+pub open_wants : (heard : Heard) (partial : List ℕ) → IsOpen heard partial → 0 < wanted partial
+open_wants heard partial is = by_length (ltb (length partial) 4) refl
+  where
+    by_length : (b : Bool) → ltb (length partial) 4 ≡ b → 0 < cond b (4 - length partial) (length_of partial + 4 - length partial)
+    by_length true short =
+        let less : length partial < 4 = ltb-true _ _ short in
+        omega (arith, less)
+    by_length false short =
+        let long : 4 ≤ length partial = ltb-false _ _ short in
+        let less : length partial < length_of partial + 4 = (open_bound heard partial is).less long in
+        omega (arith, less)
 
 -- a piece that is no longer than what is wanted does not pass the end of its frame, be it right or wrong
 pub piece_within : (heard : Heard) (partial piece : List ℕ) → IsOpen heard partial → length piece ≤ wanted partial

@@ -5,7 +5,7 @@ use Rattle.desk_ports.specs.Faults.{next_count}
 use Rattle.link_ports.specs.Traffic.{Traffic}
 use Rattle.link_ports.specs.LinkMarks.{LinkMarks}
 use Rattle.link_ports.specs.NetCounts.{count_after_give_back}
-use Rattle.wire_messages.specs.declared.messages.Framed.{Framed}
+use Rattle.wire_fields.specs.declared.messages.Framed.{Framed}
 use Rattle.client_connection.specs.declared.faults.Broken.{Broken}
 use Rattle.client_connection.specs.declared.faults.Broken.TheVariants.{Wrong}
 use Rattle.client_connection.specs.Giving.{Appends}

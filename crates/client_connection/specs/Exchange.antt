@@ -2,8 +2,8 @@
 use Rattle.std.specs.Prelude.{◌≡◌, ◌⊎◌, ℕ, List, [], Option, Some, Result, Ok, Err}
 use Rattle.link_ports.specs.Told.{IfTold}
 use Rattle.link_ports.specs.Traffic.{Traffic, with_received, with_sent}
-use Rattle.wire_messages.specs.declared.messages.Framed.{Framed}
-use Rattle.wire_messages.specs.declared.operations.Heard.TheVariants.{Replies}
+use Rattle.wire_fields.specs.declared.messages.Framed.{Framed}
+use Rattle.wire_fields.specs.declared.operations.Heard.TheVariants.{Replies}
 use Rattle.client_connection.specs.Reading.{IsRead}
 use Rattle.client_connection.specs.declared.faults.Broken.{Broken}
 use Rattle.client_connection.specs.declared.faults.Broken.TheVariants.{Lost, Wrong}

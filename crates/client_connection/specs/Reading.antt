@@ -4,11 +4,11 @@ use Rattle.link_ports.specs.Told.{IfTold}
 use Rattle.link_ports.specs.Traffic.{Traffic, with_received}
 use Rattle.link_ports.specs.LinkMarks.{LinkMarks}
 use Rattle.link_ports.specs.NetCounts.{gave_trouble}
-use Rattle.wire_messages.specs.Frame.{length_of, length_fault}
-use Rattle.wire_messages.specs.Stream.{Feeding, Hears, BeginsWrong, IsOpen, unfed}
-use Rattle.wire_messages.specs.declared.messages.Framed.{Framed}
-use Rattle.wire_messages.specs.declared.operations.Heard.{Heard}
-use Rattle.wire_messages.specs.declared.refusals.WireRefusal.{WireRefusal}
+use Rattle.wire_reading.specs.Frame.{length_of, length_fault}
+use Rattle.wire_reading.specs.Stream.{Feeding, Hears, BeginsWrong, IsOpen, unfed}
+use Rattle.wire_fields.specs.declared.messages.Framed.{Framed}
+use Rattle.wire_fields.specs.declared.operations.Heard.{Heard}
+use Rattle.wire_fields.specs.declared.refusals.WireRefusal.{WireRefusal}
 use Rattle.client_connection.specs.declared.faults.Broken.{Broken}
 use Rattle.client_connection.specs.declared.faults.Broken.TheVariants.{Lost, Wrong}
 

@@ -1,7 +1,7 @@
 // What holds of all that is read from a link. The function does nothing; its clause is the law.
 ghost use Rattle.std.specs.Prelude.{◌≤◌, ℕ, List, length, Result};
-ghost use Rattle.wire_messages.specs.declared.messages.Framed as framed;
-ghost use Rattle.wire_messages.specs.declared.operations.Heard as heard;
+ghost use Rattle.wire_fields.specs.declared.messages.Framed as framed;
+ghost use Rattle.wire_fields.specs.declared.operations.Heard as heard;
 ghost use Rattle.client_connection.specs.declared.faults.Broken as broken;
 ghost use Rattle.client_connection.specs.Reading.{IsRead};
 

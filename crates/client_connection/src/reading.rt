@@ -1,5 +1,5 @@
 ghost use Rattle.std.specs.Prelude.{◌≡◌, ◌<◌, ◌≤◌, ◌++◌, [], None, take, length, IfOk, OnOk, IfErr};
-ghost use Rattle.wire_messages.specs.Stream.{IsOpen, wanted};
+ghost use Rattle.wire_reading.specs.Stream.{IsOpen, wanted};
 ghost use Rattle.client_connection.specs.Reading.{Receives, IsTrouble, IfLost, IsUnused};
 ghost use Rattle.client_connection.specs.parts.Pieces.{HearsPiece, TakesPiece};
 

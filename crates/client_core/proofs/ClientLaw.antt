@@ -10,10 +10,10 @@ use Rattle.bucket_eval.specs.declared.answers.Verdict.{Verdict}
 use Rattle.cynara_keys.specs.Key.{Question}
 use Rattle.cynara_keys.specs.PolicyResult.{is_agent}
 use Rattle.answer_cache.specs.Cache.{Asked, Cache, same_asked, if_not_older, answer_in, used, kept, without}
-use Rattle.wire_messages.specs.Stream.{Hears}
-use Rattle.wire_messages.specs.declared.messages.Framed.{Framed}
-use Rattle.wire_messages.specs.declared.messages.Message.{Message}
-use Rattle.wire_messages.specs.declared.operations.Heard.TheVariants.{Replies}
+use Rattle.wire_reading.specs.Stream.{Hears}
+use Rattle.wire_fields.specs.declared.messages.Framed.{Framed}
+use Rattle.wire_fields.specs.declared.messages.Message.{Message}
+use Rattle.wire_fields.specs.declared.operations.Heard.TheVariants.{Replies}
 use Rattle.answer_cache.proofs.Using.{newest_used}
 use Rattle.client_core.specs.Listening.{Listening, is_fit}
 use Rattle.client_core.specs.Hearing.{HearsPiece, fault_by}

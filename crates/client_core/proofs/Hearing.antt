@@ -1,10 +1,10 @@
 -- A piece that is no longer than what is wanted of the frame under way: it ends the frame, or goes on with it.
 use Rattle.std.proofs.Common.{◌≡◌, ◌≤◌, ℕ, List, [], ◌∷◌, ◌++◌, length, None, refl, sym, ap, ◌∙◌, subst}
-use Rattle.wire_messages.specs.Stream.{Feeding, Hears, HearsOne, BeginsWrong, IsOpen, Fed, Failed, wanted, first_of}
-use Rattle.wire_messages.specs.declared.messages.Framed.{Framed}
-use Rattle.wire_messages.specs.declared.operations.Heard.{Heard}
-use Rattle.wire_messages.specs.declared.refusals.WireRefusal.{WireRefusal}
-use Rattle.wire_messages.specs.declared.refusals.WireRefusal.TheVariants.{TooShort, TooLong, BadOperation, BadField, Trailing, Memory}
+use Rattle.wire_reading.specs.Stream.{Feeding, Hears, HearsOne, BeginsWrong, IsOpen, Fed, Failed, wanted, first_of}
+use Rattle.wire_fields.specs.declared.messages.Framed.{Framed}
+use Rattle.wire_fields.specs.declared.operations.Heard.{Heard}
+use Rattle.wire_fields.specs.declared.refusals.WireRefusal.{WireRefusal}
+use Rattle.wire_fields.specs.declared.refusals.WireRefusal.TheVariants.{TooShort, TooLong, BadOperation, BadField, Trailing, Memory}
 use Rattle.client_core.specs.Hearing.{HearsFeeding}
 use Rattle.client_core.specs.declared.feeding.Fed.TheVariants as fed
 

@@ -4,11 +4,11 @@ use Rattle.std.proofs.lemmas.Bool.Decides.{nat_tests}
 use Rattle.std.specs.Prelude.{◌⊎◌, nat_lt, nat_le, ◌==◌, ◌&&◌, if◌then◌else◌}
 use Rattle.answer_cache.specs.Cache.{Cache}
 use Rattle.bucket_eval.specs.declared.answers.Verdict.{Verdict}
-use Rattle.wire_messages.specs.Stream.{Hears, BeginsWrong, IsOpen, wanted}
-use Rattle.wire_messages.specs.declared.operations.Heard.TheVariants.{Replies}
-use Rattle.wire_messages.specs.declared.refusals.WireRefusal.{WireRefusal}
-use Rattle.wire_messages.specs.declared.messages.Framed.{Framed}
-use Rattle.wire_messages.specs.declared.messages.Message.{Message}
+use Rattle.wire_reading.specs.Stream.{Hears, BeginsWrong, IsOpen, wanted}
+use Rattle.wire_fields.specs.declared.operations.Heard.TheVariants.{Replies}
+use Rattle.wire_fields.specs.declared.refusals.WireRefusal.{WireRefusal}
+use Rattle.wire_fields.specs.declared.messages.Framed.{Framed}
+use Rattle.wire_fields.specs.declared.messages.Message.{Message}
 use Rattle.client_core.specs.Listening.{Listening, unheard, is_fit}
 use Rattle.client_core.specs.Client.{Client, forgotten, raised}
 use Rattle.client_core.specs.Hearing.{HearsPiece, fault_by}
@@ -35,8 +35,8 @@ use Rattle.client_core.specs.declared.steps.Fault.{Fault}
 use Rattle.client_core.specs.declared.steps.Fault.TheVariants.{Sequence, Operation}
 use Rattle.client_core.specs.declared.wanted.Wanted.{Wanted}
 use Rattle.client_core.specs.declared.wanted.Wanted.TheVariants.{Command, Verdict as WantedVerdict, Rows, State, Service, Stop}
-use Rattle.wire_messages.specs.Operation.{number_of}
-use Rattle.wire_messages.specs.Message.{operation}
+use Rattle.wire_fields.specs.Operation.{number_of}
+use Rattle.wire_fields.specs.Message.{operation}
 use Rattle.client_core.specs.declared.wanted.Next.{Next}
 use Rattle.client_core.specs.declared.wanted.Next.TheVariants as next
 
@@ -193,6 +193,14 @@ module _ (kind : Kind) (frame : List ℕ) (s t : AgentStage) (answer : Step) (ne
     pub same_next : (ear : Listening) (bytes : List ℕ) → agent_does.HearsNext asked ear bytes answer (agent kind frame s) new
         → agent_does.HearsNext asked ear bytes answer (agent kind frame t) new
     same_next ear bytes d = (d.0, d.1, next_hears d.0 d.2)
+
+-- ---- where more bytes are waited for
+
+pub wait_over : {X : Type 0} (f : Fault) → step.Wait ≡ step.Over f → X
+wait_over f is = cc
+
+pub wait_reply : {X : Type 0} (m : Message) → step.Wait ≡ step.Reply m → X
+wait_reply m is = cc
 
 -- ---- wrong replies
 

@@ -2,16 +2,16 @@
 use Rattle.std.specs.Prelude.{◌≡◌, ◌⊎◌, ℕ, ◌+◌, ◌≤◌, nat_lt, Bool, true, false, List, [], ◌∷◌, ◌++◌, length}
 use Rattle.std.specs.Int.{w16, w32, to_be_bytes}
 use Rattle.std.specs.declared.alloc.AllocError.{AllocError}
-use Rattle.wire_messages.specs.Frame.{body, spelling, frame_of, with_sequence, IsTooLong}
-use Rattle.wire_messages.specs.Limits.{most_length}
-use Rattle.wire_messages.specs.declared.messages.Message.{Message}
-use Rattle.wire_messages.specs.declared.refusals.EncodeRefusal.TheVariants.{TooLong as TooLongFor}
-use Rattle.wire_messages.specs.Hearing.{IsHeard}
-use Rattle.wire_messages.specs.Stream.{wanted}
-use Rattle.wire_messages.specs.declared.messages.Framed.{Framed}
-use Rattle.wire_messages.specs.declared.operations.Heard.TheVariants.{AtAdmin, Replies}
-use Rattle.wire_messages.specs.declared.refusals.WireRefusal.{WireRefusal}
-use Rattle.wire_messages.specs.declared.refusals.WireRefusal.TheVariants.{Memory as NoMemory}
+use Rattle.wire_reading.specs.Frame.{body, spelling, frame_of, with_sequence, IsTooLong}
+use Rattle.wire_fields.specs.Limits.{most_length}
+use Rattle.wire_fields.specs.declared.messages.Message.{Message}
+use Rattle.wire_fields.specs.declared.refusals.EncodeRefusal.TheVariants.{TooLong as TooLongFor}
+use Rattle.wire_reading.specs.Hearing.{IsHeard}
+use Rattle.wire_reading.specs.Stream.{wanted}
+use Rattle.wire_fields.specs.declared.messages.Framed.{Framed}
+use Rattle.wire_fields.specs.declared.operations.Heard.TheVariants.{AtAdmin, Replies}
+use Rattle.wire_fields.specs.declared.refusals.WireRefusal.{WireRefusal}
+use Rattle.wire_fields.specs.declared.refusals.WireRefusal.TheVariants.{Memory as NoMemory}
 use Rattle.std.specs.Prelude.{Result, Ok, Err}
 use Rattle.client_core.specs.Listening.{Listening, unheard, is_fit}
 use Rattle.client_core.specs.Hearing.{HearsPiece, fault_by}

@@ -1,11 +1,11 @@
 -- What an administrator sent and was answered, call by call, and what follows from it.
 use Rattle.std.specs.Prelude.{◌≡◌, ℕ, suc, List, [], ◌∷◌, ◌++◌, map, length, Option, Some, None, Result}
-use Rattle.wire_messages.specs.Frame.{spelling}
-use Rattle.wire_messages.specs.Hearing.{IsHeard}
-use Rattle.wire_messages.specs.Stream.{Hears}
-use Rattle.wire_messages.specs.declared.messages.Framed.{Framed}
-use Rattle.wire_messages.specs.declared.messages.Message.{Message}
-use Rattle.wire_messages.specs.declared.operations.Heard.TheVariants.{AtAdmin, Replies}
+use Rattle.wire_reading.specs.Frame.{spelling}
+use Rattle.wire_reading.specs.Hearing.{IsHeard}
+use Rattle.wire_reading.specs.Stream.{Hears}
+use Rattle.wire_fields.specs.declared.messages.Framed.{Framed}
+use Rattle.wire_fields.specs.declared.messages.Message.{Message}
+use Rattle.wire_fields.specs.declared.operations.Heard.TheVariants.{AtAdmin, Replies}
 use Rattle.client_core.specs.Admin.{Admin, fresh, cut, raw_frame}
 use Rattle.client_core.specs.Admin as does
 use Rattle.client_core.specs.AdminReplies.{wanted_of, next_of}

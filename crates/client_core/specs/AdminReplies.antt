@@ -1,10 +1,10 @@
 -- Which replies a message of an administrator is to have.
 use Rattle.std.specs.Prelude.{◌≡◌, ℕ, ◌==◌, nat_lt, Bool, true, false, ◌&&◌, if◌then◌else◌}
-use Rattle.wire_messages.specs.Operation.{number_of}
-use Rattle.wire_messages.specs.Message.{operation}
-use Rattle.wire_messages.specs.declared.messages.Framed.{Framed}
-use Rattle.wire_messages.specs.declared.messages.Message.{Message}
-use Rattle.wire_messages.specs.declared.messages.Message.TheVariants as message
+use Rattle.wire_fields.specs.Operation.{number_of}
+use Rattle.wire_fields.specs.Message.{operation}
+use Rattle.wire_fields.specs.declared.messages.Framed.{Framed}
+use Rattle.wire_fields.specs.declared.messages.Message.{Message}
+use Rattle.wire_fields.specs.declared.messages.Message.TheVariants as message
 use Rattle.client_core.specs.declared.steps.Fault.{Fault}
 use Rattle.client_core.specs.declared.steps.Fault.TheVariants.{Sequence, Operation}
 use Rattle.client_core.specs.declared.wanted.Wanted.{Wanted}

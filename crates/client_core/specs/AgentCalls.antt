@@ -1,8 +1,8 @@
 -- What an agent was asked and answered, call by call, and what follows from it.
 use Rattle.std.specs.Prelude.{◌≡◌, ◌==◌, ℕ, Bool, if◌then◌else◌, List, [], ◌∷◌, Option, Some, None}
 use Rattle.cynara_keys.specs.declared.results.Kind.{Kind}
-use Rattle.wire_messages.specs.Frame.{spelling, with_sequence}
-use Rattle.wire_messages.specs.declared.messages.Message.TheVariants.{Register, AgentAnswer}
+use Rattle.wire_reading.specs.Frame.{spelling, with_sequence}
+use Rattle.wire_fields.specs.declared.messages.Message.TheVariants.{Register, AgentAnswer}
 use Rattle.client_core.specs.Agent.{Agent, fresh, cut, Turn, turn_of}
 use Rattle.client_core.specs.Agent as does
 use Rattle.client_core.specs.declared.steps.Step.{Step}

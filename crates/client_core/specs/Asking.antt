@@ -6,13 +6,13 @@ use Rattle.bucket_eval.specs.declared.answers.Verdict.{Verdict}
 use Rattle.cynara_keys.specs.Key.{Question}
 use Rattle.cynara_keys.specs.PolicyResult.{is_agent}
 use Rattle.answer_cache.specs.Cache.{Asked, IsOfNames, key_text, Cache, answer_in, used, kept, without}
-use Rattle.wire_messages.specs.Operation.{number_of}
-use Rattle.wire_messages.specs.Message.{operation}
-use Rattle.wire_messages.specs.Stream.{Hears, BeginsWrong, IsOpen, wanted}
-use Rattle.wire_messages.specs.declared.messages.Framed.{Framed}
-use Rattle.wire_messages.specs.declared.messages.Message.{Message}
-use Rattle.wire_messages.specs.declared.messages.Message.TheVariants.{Judged, FromAgent, NotResolved, NoAgent, AgentGone, AgentFull}
-use Rattle.wire_messages.specs.declared.operations.Heard.TheVariants.{Replies}
+use Rattle.wire_fields.specs.Operation.{number_of}
+use Rattle.wire_fields.specs.Message.{operation}
+use Rattle.wire_reading.specs.Stream.{Hears, BeginsWrong, IsOpen, wanted}
+use Rattle.wire_fields.specs.declared.messages.Framed.{Framed}
+use Rattle.wire_fields.specs.declared.messages.Message.{Message}
+use Rattle.wire_fields.specs.declared.messages.Message.TheVariants.{Judged, FromAgent, NotResolved, NoAgent, AgentGone, AgentFull}
+use Rattle.wire_fields.specs.declared.operations.Heard.TheVariants.{Replies}
 use Rattle.client_core.specs.Listening.{Listening, is_fit}
 use Rattle.client_core.specs.Hearing.{HearsPiece, fault_by}
 use Rattle.client_core.specs.Client.{Client, forgotten, raised, asked_by, frame_of, waiting, with_tries}

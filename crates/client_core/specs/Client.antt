@@ -1,9 +1,9 @@
 -- A client's side of a connection: what it keeps.
 use Rattle.std.specs.Prelude.{◌≡◌, ℕ, ◌+◌, ◌%◌, ◌^◌, Bool, true, false, if◌then◌else◌, List, []}
 use Rattle.answer_cache.specs.Cache.{Asked, Cache, asked_in, empty_cache, with_entries}
-use Rattle.wire_messages.specs.Frame.{spelling, with_sequence}
-use Rattle.wire_messages.specs.Lent.{asks}
-use Rattle.wire_messages.specs.declared.operations.Heard.TheVariants.{Replies}
+use Rattle.wire_reading.specs.Frame.{spelling, with_sequence}
+use Rattle.wire_reading.specs.Lent.{asks}
+use Rattle.wire_fields.specs.declared.operations.Heard.TheVariants.{Replies}
 use Rattle.client_core.specs.Listening.{unheard}
 use Rattle.client_core.specs.declared.stages.Asking.{Asking}
 use Rattle.client_core.specs.declared.stages.Stage.{Stage}

@@ -1,7 +1,7 @@
 -- The bytes of one frame, as far as they came.
 use Rattle.std.specs.Prelude.{◌≡◌, ℕ, nat_lt, nat_le, Bool, false, if◌then◌else◌, List, [], length, None}
-use Rattle.wire_messages.specs.declared.operations.Heard.{Heard}
-use Rattle.wire_messages.specs.Stream.{Feeding, IsOpen, wanted}
+use Rattle.wire_fields.specs.declared.operations.Heard.{Heard}
+use Rattle.wire_reading.specs.Stream.{Feeding, IsOpen, wanted}
 
 -- who hears, and the bytes of the frame under way
 pub record Listening : Type 0 where

@@ -5,8 +5,8 @@ ghost use Rattle.client_core.specs.Admin.{fresh, cut, sent, exchange_of};
 ghost use Rattle.client_core.specs.declared.steps.Step.TheVariants as step;
 ghost use Rattle.client_core.specs.declared.stages.AdminStage.TheVariants as stage_is;
 
-use crate::clients::fault_by;
 use crate::ears::{Ear, Piece};
+use crate::faults::fault_by;
 use crate::raw_messages::{MOST_FIELDS, read_raw};
 use crate::stages::{AdminStage, Exchange};
 use crate::steps::{Fault, Step};

@@ -1,17 +1,17 @@
 ghost use Rattle.std.specs.Prelude.{◌≡◌, ◌≤◌, [], true, None, length, OnOk, OnErr};
-ghost use Rattle.wire_messages.specs.Frame.{spelling, body, with_sequence};
+ghost use Rattle.wire_reading.specs.Frame.{spelling, body, with_sequence};
 ghost use Rattle.client_core.specs.Listening.{is_fit};
 ghost use Rattle.client_core.specs.Agent as does;
 ghost use Rattle.client_core.specs.Agent.{fresh, cut, listening};
-ghost use Rattle.wire_messages.specs.Operation.{number_of};
-ghost use Rattle.wire_messages.specs.Message.{operation};
-ghost use Rattle.wire_messages.specs.declared.messages.Message.TheVariants.{AgentAnswer};
+ghost use Rattle.wire_fields.specs.Operation.{number_of};
+ghost use Rattle.wire_fields.specs.Message.{operation};
+ghost use Rattle.wire_fields.specs.declared.messages.Message.TheVariants.{AgentAnswer};
 ghost use Rattle.client_core.specs.declared.steps.Step.TheVariants as step;
 ghost use Rattle.client_core.specs.declared.steps.Fault.TheVariants as fault;
 ghost use Rattle.client_core.specs.declared.stages.AgentStage.TheVariants as stage_is;
 
-use crate::clients::fault_by;
 use crate::ears::{Ear, Piece};
+use crate::faults::fault_by;
 use crate::stages::{AgentStage, Open};
 use crate::steps::{Fault, Step};
 use cynara_keys::Kind;

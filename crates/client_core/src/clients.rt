@@ -4,14 +4,14 @@ ghost use Rattle.std.specs.Option.{option_copied};
 ghost use Rattle.answer_cache.specs.Cache.{asked_in, newest};
 ghost use Rattle.answer_cache.specs.Limits.{most_entries};
 ghost use Rattle.client_core.specs.Listening.{is_fit};
-ghost use Rattle.client_core.specs.Hearing as hearing;
 ghost use Rattle.client_core.specs.Client.{fresh, forgotten, raised, asked_by, frame_of, waiting};
 ghost use Rattle.client_core.specs.Asking as does;
 ghost use Rattle.client_core.specs.declared.steps.Step.TheVariants as step;
 ghost use Rattle.client_core.specs.declared.stages.Stage.TheVariants as stage_is;
 
 use crate::ears::{Ear, Piece};
-use crate::stages::{Asking, Stage};
+use crate::faults::{fault_by, fault_in};
+use crate::stages::{Asking, Stage, is_tried};
 use crate::steps::{Fault, Step};
 use answer_cache::AnswerCache;
 use cynara_keys::{Name, Question};
@@ -19,7 +19,7 @@ use desk_ports::Bytes;
 use std::alloc::{AllocError, Global};
 use std::marker::Model;
 use std::mem;
-use wire_messages::{Framed, Heard, Message, PackedVerdict, WireRefusal, encode_check_into};
+use wire_messages::{Framed, Heard, Message, PackedVerdict, encode_check_into};
 
 /// Dials or connections that may fail in one question.
 const MOST_TRIES: u32 = 3;
@@ -394,58 +394,4 @@ impl ClientMachine {
             _ => {}
         }
     }
-}
-
-fn is_tried(stage: &Stage) -> bool
-    ensures { result ≡ does.was_tried stage.now }
-{
-    match stage {
-        Stage::Dialling(asking) => asking.is_tried,
-        Stage::Waiting(_, _) => true,
-        _ => false,
-    }
-}
-
-// What bytes that are no frame come to.
-pub(crate) fn fault_by(refusal: WireRefusal) -> Fault
-    ensures { result ≡ hearing.fault_by refusal }
-{
-    match refusal {
-        WireRefusal::Memory(error) => Fault::Memory(error),
-        fault => Fault::Frame(fault),
-    }
-}
-
-// The commit that a reply to a check tells; none of another message.
-fn commit_of(message: &Message) -> Option<u64>
-    ensures { result ≡ does.commit_of message.now }
-{
-    match message {
-        Message::Judged { verdict } => Some(verdict.commit()),
-        Message::FromAgent { commit, .. } => Some(*commit),
-        Message::NotResolved { commit, .. } => Some(*commit),
-        Message::NoAgent { commit, .. } => Some(*commit),
-        Message::AgentGone { commit, .. } => Some(*commit),
-        Message::AgentFull { commit, .. } => Some(*commit),
-        _ => None,
-    }
-}
-
-// What is wrong with a reply to the check of this sequence number, by a client that was told of this commit.
-fn fault_in(sequence: u16, told: u64, framed: &Framed) -> Option<Fault>
-    ensures { result ≡ does.fault_in sequence told framed.now }
-{
-    if framed.sequence != sequence {
-        return Some(Fault::Sequence {
-            sent: sequence,
-            got: framed.sequence,
-        });
-    }
-    let Some(got) = commit_of(&framed.message) else {
-        return Some(Fault::Operation(framed.message.operation()));
-    };
-    if got < told {
-        return Some(Fault::Older { told, got });
-    }
-    None
 }

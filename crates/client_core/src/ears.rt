@@ -33,7 +33,7 @@ pub(crate) enum Piece {
 
 impl Ear {
     ghost use Rattle.std.specs.Prelude.{◌≡◌, ◌<◌, true};
-    ghost use Rattle.wire_messages.specs.Stream.{wanted};
+    ghost use Rattle.wire_reading.specs.Stream.{wanted};
     ghost use Rattle.client_core.specs.Listening.{unheard, is_fit};
     ghost use Rattle.client_core.specs.Hearing.{HearsPiece};
 

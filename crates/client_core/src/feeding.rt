@@ -1,6 +1,6 @@
 // Bytes of one frame are fed to a feeder.
 ghost use Rattle.std.specs.Prelude.{◌≡◌, ◌≤◌, [], None, length};
-ghost use Rattle.wire_messages.specs.Stream.{IsOpen, wanted};
+ghost use Rattle.wire_reading.specs.Stream.{IsOpen, wanted};
 ghost use Rattle.client_core.specs.Hearing.{HearsFeeding};
 
 use wire_messages::{Feeder, Framed, WireRefusal, no_byte_past_a_frame};

@@ -11,6 +11,7 @@ mod admins;
 mod agents;
 mod clients;
 mod ears;
+mod faults;
 mod feeding;
 mod laws;
 mod machines;

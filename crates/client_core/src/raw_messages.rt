@@ -1,8 +1,8 @@
 // Messages of an administrator, by the bytes of their fields.
 ghost use Rattle.std.specs.Prelude.{◌≡◌, ◌≤◌, ◌+◌, [], length, IfOk, OnOk};
-ghost use Rattle.wire_messages.specs.Frame.{Answers, spelling, frame_of, length_of};
-ghost use Rattle.wire_messages.specs.Hearing.{IsHeard};
-ghost use Rattle.wire_messages.specs.declared.operations.Heard.TheVariants.{AtAdmin};
+ghost use Rattle.wire_reading.specs.Frame.{Answers, spelling, frame_of, length_of};
+ghost use Rattle.wire_reading.specs.Hearing.{IsHeard};
+ghost use Rattle.wire_fields.specs.declared.operations.Heard.TheVariants.{AtAdmin};
 ghost use Rattle.client_core.specs.Admin.{raw_frame};
 
 use desk_ports::Bytes;

@@ -1,4 +1,7 @@
 // How far a machine has come.
+ghost use Rattle.std.specs.Prelude.{◌≡◌};
+ghost use Rattle.client_core.specs.Asking as does;
+
 use crate::ears::Ear;
 use crate::wanted::Wanted;
 use cynara_keys::{Name, Question};
@@ -25,6 +28,17 @@ pub(crate) enum Stage {
     Dialling(Asking),
     /// The frame is sent, and the reply is to come.
     Waiting(Asking, Ear),
+}
+
+/// Whether the frame of the question that is under way was to be sent.
+pub(crate) fn is_tried(stage: &Stage) -> bool
+    ensures { result ≡ does.was_tried stage.now }
+{
+    match stage {
+        Stage::Dialling(asking) => asking.is_tried,
+        Stage::Waiting(_, _) => true,
+        _ => false,
+    }
 }
 
 /// A message of an administrator that is under way: what answer it is to have, the sequence number of its frame, and how many

@@ -7,10 +7,10 @@ use Rattle.link_ports.specs.Traffic.{Traffic}
 use Rattle.cynara_keys.specs.Key.{Question}
 use Rattle.live_roll.specs.declared.answers.Left.{Left}
 use Rattle.live_roll.specs.declared.answers.Left.TheVariants.{Still, Hung as LeftHung, Stopped as LeftStopped}
-use Rattle.wire_messages.specs.Stream.{Hears}
-use Rattle.wire_messages.specs.declared.messages.Framed.{Framed}
-use Rattle.wire_messages.specs.declared.operations.Heard.TheVariants.{AtClient}
-use Rattle.wire_messages.proofs.Hearings.{heard_once}
+use Rattle.wire_reading.specs.Stream.{Hears}
+use Rattle.wire_fields.specs.declared.messages.Framed.{Framed}
+use Rattle.wire_fields.specs.declared.operations.Heard.TheVariants.{AtClient}
+use Rattle.wire_reading.proofs.Hearings.{heard_once}
 use Rattle.server_hall.specs.Call.{AskResult, AskMade, LeaveMade}
 use Rattle.server_hall.specs.Tally.{Tally, after_ask, after_leave, stops_after_ask, losses_after_ask}
 use Rattle.server_hall.specs.declared.refusals.AskRefusal.TheVariants.{Put, Gone, Stopped as AskStopped, Lost, Withdrawn}

@@ -12,10 +12,10 @@ use Rattle.live_desk.specs.Seat.{SeatState}
 use Rattle.desk_world.specs.Links.{read_as, reading_of}
 use Rattle.desk_world.specs.declared.links.Reading.TheVariants.{Ready as IsReady}
 use Rattle.desk_world.specs.declared.replies.Reply.{Reply}
-use Rattle.wire_messages.specs.Frame.{spelling, with_sequence}
-use Rattle.wire_messages.specs.Lent.{judged}
-use Rattle.wire_messages.specs.Stream.{first_of, Whole}
-use Rattle.wire_messages.specs.declared.operations.Heard.TheVariants.{AtClient}
+use Rattle.wire_reading.specs.Frame.{spelling, with_sequence}
+use Rattle.wire_reading.specs.Lent.{judged}
+use Rattle.wire_reading.specs.Stream.{first_of, Whole}
+use Rattle.wire_fields.specs.declared.operations.Heard.TheVariants.{AtClient}
 use Rattle.door_frames.specs.declared.endings.Ended.{Ended}
 use Rattle.door_frames.specs.declared.endings.Ended.TheVariants.{Memory}
 use Rattle.client_door.specs.Check.{framed_of, message_of}

@@ -5,9 +5,9 @@ use Rattle.cynara_keys.specs.declared.results.Kind.{Kind}
 use Rattle.bucket_eval.specs.declared.lending.BorrowedAnswer.{BorrowedAnswer}
 use Rattle.bucket_eval.specs.Found.{answer_of}
 use Rattle.bucket_eval.specs.Lent.{outcome_lent}
-use Rattle.wire_messages.specs.Frame.{spelling, with_sequence}
-use Rattle.wire_messages.specs.Lent.{judged}
-use Rattle.wire_messages.specs.declared.messages.Message.TheVariants as message
+use Rattle.wire_reading.specs.Frame.{spelling, with_sequence}
+use Rattle.wire_reading.specs.Lent.{judged}
+use Rattle.wire_fields.specs.declared.messages.Message.TheVariants as message
 use Rattle.desk_world.specs.Links.{read_as, reading_of}
 use Rattle.desk_world.specs.declared.links.Reading.TheVariants.{Ready, Due}
 use Rattle.desk_world.specs.declared.replies.Reply.TheVariants.{NotResolved}

@@ -8,9 +8,9 @@ use Rattle.desk_world.specs.Links.{may_read}
 use Rattle.desk_world.specs.declared.links.Reading.{Reading}
 use Rattle.desk_world.specs.declared.links.Reading.TheVariants.{Nothing, Ready, Due, Waiting}
 use Rattle.desk_world.specs.declared.replies.Reply.{Reply}
-use Rattle.wire_messages.specs.Stream.{Hears}
-use Rattle.wire_messages.specs.declared.messages.Framed.{Framed}
-use Rattle.wire_messages.specs.declared.operations.Heard.TheVariants.{AtClient}
+use Rattle.wire_reading.specs.Stream.{Hears}
+use Rattle.wire_fields.specs.declared.messages.Framed.{Framed}
+use Rattle.wire_fields.specs.declared.operations.Heard.TheVariants.{AtClient}
 use Rattle.server_hall.specs.Call.{AskMade}
 use Rattle.client_door.specs.Check.{framed_of}
 use Rattle.client_door.specs.Reading.{reading}

@@ -3,8 +3,8 @@ use Rattle.std.specs.Prelude.{◌≡◌, ℕ, List, [], ◌∷◌, ◌++◌, map
 use Rattle.std.specs.List.{flat_map}
 use Rattle.cynara_keys.specs.Key.{Question}
 use Rattle.desk_state.specs.DeskState.{DeskState}
-use Rattle.wire_messages.specs.Frame.{spelling, with_sequence}
-use Rattle.wire_messages.specs.declared.messages.Framed.{Framed}
+use Rattle.wire_reading.specs.Frame.{spelling, with_sequence}
+use Rattle.wire_fields.specs.declared.messages.Framed.{Framed}
 use Rattle.live_desk.specs.History.{last_commit}
 use Rattle.desk_world.specs.Links.{may_read}
 use Rattle.desk_world.specs.declared.links.Reading.{Reading}

@@ -1,11 +1,11 @@
 -- A check as a frame, and its reply as a message.
 use Rattle.desk_world.specs.declared.replies.Reply.{Reply}
 use Rattle.desk_world.specs.declared.replies.Reply.TheVariants as reply
-use Rattle.wire_messages.specs.Frame.{with_sequence}
-use Rattle.wire_messages.specs.Lent.{asks}
-use Rattle.wire_messages.specs.declared.messages.Framed.{Framed}
-use Rattle.wire_messages.specs.declared.messages.Message.{Message}
-use Rattle.wire_messages.specs.declared.messages.Message.TheVariants as message
+use Rattle.wire_reading.specs.Frame.{with_sequence}
+use Rattle.wire_reading.specs.Lent.{asks}
+use Rattle.wire_fields.specs.declared.messages.Framed.{Framed}
+use Rattle.wire_fields.specs.declared.messages.Message.{Message}
+use Rattle.wire_fields.specs.declared.messages.Message.TheVariants as message
 use Rattle.client_door.specs.declared.checks.Check.{Check}
 use Rattle.client_door.specs.declared.agent_replies.AgentReply.{AgentReply}
 use Rattle.client_door.specs.declared.agent_replies.AgentReply.TheVariants as agent

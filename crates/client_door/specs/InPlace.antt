@@ -8,8 +8,8 @@ use Rattle.live_desk.specs.Seat.{SeatState}
 use Rattle.desk_world.specs.declared.links.Reading.{Reading}
 use Rattle.desk_world.specs.declared.links.Reading.TheVariants.{Ready}
 use Rattle.desk_world.specs.declared.replies.Reply.TheVariants.{Judged as IsJudged}
-use Rattle.wire_messages.specs.Frame.{spelling, with_sequence}
-use Rattle.wire_messages.specs.declared.lent_checks.LentCheck.{LentCheck}
+use Rattle.wire_reading.specs.Frame.{spelling, with_sequence}
+use Rattle.wire_reading.specs.declared.lent_checks.LentCheck.{LentCheck}
 use Rattle.client_door.specs.Check.{message_of}
 use Rattle.client_door.specs.Reading.{reading, cause_at}
 use Rattle.client_door.specs.declared.checks.Check.{Check}

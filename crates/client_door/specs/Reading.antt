@@ -9,7 +9,7 @@ use Rattle.cynara_keys.specs.Key.{Question}
 use Rattle.desk_state.specs.DeskState.{DeskState}
 use Rattle.live_desk.specs.History.{IsLast, Rises}
 use Rattle.live_desk.specs.Seat.{SeatState}
-use Rattle.wire_messages.specs.Frame.{spelling, with_sequence}
+use Rattle.wire_reading.specs.Frame.{spelling, with_sequence}
 use Rattle.desk_world.specs.Links.{reading_of}
 use Rattle.desk_world.specs.declared.links.Reading.{Reading}
 use Rattle.desk_world.specs.declared.links.Reading.TheVariants.{Ready as IsReady, Due as IsDue}

@@ -12,9 +12,9 @@ use Rattle.live_desk.specs.Seat.{SeatState, with_note}
 use Rattle.live_roll.specs.declared.answers.Left.{Left}
 use Rattle.live_roll.specs.declared.answers.Left.TheVariants.{Still, Hung as LeftHung, Stopped as LeftStopped}
 use Rattle.live_roll.specs.declared.answers.Stopped.{Stopped as IsStopped}
-use Rattle.wire_messages.specs.Stream.{Hears}
-use Rattle.wire_messages.specs.declared.messages.Framed.{Framed}
-use Rattle.wire_messages.specs.declared.operations.Heard.TheVariants.{AtClient}
+use Rattle.wire_reading.specs.Stream.{Hears}
+use Rattle.wire_fields.specs.declared.messages.Framed.{Framed}
+use Rattle.wire_fields.specs.declared.operations.Heard.TheVariants.{AtClient}
 use Rattle.server_hall.specs.Call.{AskMade}
 use Rattle.server_hall.specs.Tally.{Tally, after_enter, after_leave, IsRaised}
 use Rattle.server_hall.specs.Told.{AppendsCalls}

@@ -1,5 +1,5 @@
 ghost use Rattle.std.specs.Prelude.{◌≡◌, ◌∷◌, [], MatchOption};
-ghost use Rattle.wire_messages.specs.declared.operations.Heard.TheVariants.{AtClient};
+ghost use Rattle.wire_fields.specs.declared.operations.Heard.TheVariants.{AtClient};
 ghost use Rattle.door_frames.specs.Hearing.{HandsOut};
 ghost use Rattle.client_door.specs.Check.{framed_of, IsNoCheck};
 

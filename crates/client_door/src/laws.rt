@@ -1,6 +1,6 @@
 // What holds of all connections. These functions do nothing; their clauses are the laws.
 ghost use Rattle.std.specs.Prelude.{◌≡◌, ◌⊎◌, List};
-ghost use Rattle.wire_messages.specs.declared.messages.Framed as framed;
+ghost use Rattle.wire_fields.specs.declared.messages.Framed as framed;
 ghost use Rattle.door_frames.specs.declared.endings.Ended as ended;
 ghost use Rattle.door_frames.specs.declared.endings.Ended.TheVariants.{Closed, Memory};
 ghost use Rattle.client_door.specs.Serving.{ClientSide, Serves};

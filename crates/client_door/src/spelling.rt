@@ -1,5 +1,5 @@
 ghost use Rattle.std.specs.Prelude.{◌≡◌, MatchResult};
-ghost use Rattle.wire_messages.specs.Frame.{spelling, with_sequence};
+ghost use Rattle.wire_reading.specs.Frame.{spelling, with_sequence};
 ghost use Rattle.door_frames.specs.declared.endings.Ended.TheVariants.{Memory};
 
 use desk_ports::Bytes;

@@ -3,7 +3,7 @@ use Rattle.std.specs.Prelude.{◌≡◌, ℕ, List, Option, Some, None, Result, 
 use Rattle.bucket_eval.specs.declared.answers.Row.{Row}
 use Rattle.bucket_eval.specs.declared.answers.Answer.{Answer}
 use Rattle.bucket_eval.specs.declared.answers.Verdict.{Verdict}
-use Rattle.line_script.specs.Answers.{by_policy_text, by_fallback_text, from_agent_text, not_resolved_text, no_agent_text, agent_gone_text, agent_full_text, ruling}
+use Rattle.line_answers.specs.Answers.{by_policy_text, by_fallback_text, from_agent_text, not_resolved_text, no_agent_text, agent_gone_text, agent_full_text, ruling}
 use Rattle.run_endings.specs.Saying.{Said, silence}
 use Rattle.run_endings.specs.declared.endings.Ending.{Ending}
 use Rattle.run_endings.specs.declared.endings.Ending.TheVariants.{Done, Memory, Sink, Net, Reply}

@@ -1,12 +1,12 @@
 // The line of what a check is answered.
 ghost use Rattle.std.specs.Prelude.{Ok, Err};
-ghost use Rattle.line_script.specs.Answers.{answer_text};
+ghost use Rattle.line_answers.specs.Answers.{answer_text};
 ghost use Rattle.client_runs.specs.AnswerLine.{GivesText, GivesLine, verdict_line};
 
 use bucket_eval::Verdict;
 use cynara_client::{Checked, ClientRefusal};
 use desk_ports::Bytes;
-use line_script::{LineAnswer, print};
+use line_answers::{LineAnswer, print};
 use run_endings::Ending;
 use std::alloc::Global;
 

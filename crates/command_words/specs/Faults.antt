@@ -1,5 +1,6 @@
 -- The first thing that is wrong with words that are no command.
-use Rattle.std.specs.Prelude.{◌≡◌, String, if◌then◌else◌, ℕ, List, [], ◌∷◌, map, Option, Some, None, Result, Ok, Err, codes}
+use Rattle.std.specs.Prelude.{◌≡◌, String, if◌then◌else◌, ℕ, List, [], ◌∷◌, map}
+use Rattle.std.specs.Prelude.{Option, Some, None, Result, Ok, Err, codes}
 use Rattle.std.specs.Option.{option_map, option_or}
 use Rattle.std.specs.List.{position}
 use Rattle.std.specs.String.{string_bytes}
@@ -50,7 +51,8 @@ access_wrong subject object modes =
 
 abbrev pub names_wrong : List ℕ → List ℕ → List ℕ → List ℕ → Option WordFault
 names_wrong client session user privilege =
-    option_or (name_wrong 1 client) (option_or (name_wrong 2 session) (option_or (name_wrong 3 user) (name_wrong 4 privilege)))
+    option_or (name_wrong 1 client)
+    (option_or (name_wrong 2 session) (option_or (name_wrong 3 user) (name_wrong 4 privilege)))
 
 -- The words are those of a line, so that their count tells which places they have.
 abbrev pub value_wrong : List (List ℕ) → Option WordFault

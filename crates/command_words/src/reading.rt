@@ -5,9 +5,11 @@ ghost use Rattle.std.specs.String.{string_bytes};
 ghost use Rattle.cynara_keys.specs.Name.{name_fault};
 ghost use Rattle.smack_rules.specs.Label.{label_fault};
 ghost use Rattle.command_words.specs.Commands.{is_option, command_of};
-ghost use Rattle.command_words.specs.Commands.{serve_of, watch_of, sample_of, allowed_of, agent_of, access_of, names_of};
+ghost use Rattle.command_words.specs.Commands.{serve_of, watch_of, sample_of, allowed_of};
+ghost use Rattle.command_words.specs.Commands.{agent_of, access_of, names_of};
 ghost use Rattle.command_words.specs.Commands.{ReadsCommand, IsUnknown, KeepsBounds};
-ghost use Rattle.command_words.specs.Faults.{NamesFault, first_wrong, number_wrong, agent_wrong, access_wrong, names_wrong};
+ghost use Rattle.command_words.specs.Faults.{NamesFault, first_wrong, number_wrong};
+ghost use Rattle.command_words.specs.Faults.{agent_wrong, access_wrong, names_wrong};
 ghost use Rattle.command_words.specs.parts.Names.{ReadsNames};
 ghost use Rattle.command_words.specs.parts.Lines.{command_in, wrong_in};
 ghost use Rattle.command_words.specs.declared.commands.Command.TheVariants.{Check, Simple};
@@ -22,9 +24,9 @@ use std::alloc::{AllocError, Global};
 use word_line::{Line, LineRefusal, read_line};
 
 impl Command {
-    /// Reads the words behind the program's name. `Unknown` exactly where they name no command, with the first fault in this
-    /// order: a word begins with `-`, they are the words of no line, a word is no number, label, modes, name or answer in
-    /// its place. `Memory` may come at any words of which none begins with `-`.
+    /// Reads the words behind the program's name. `Unknown` exactly where they name no command, with the first fault in
+    /// this order: a word begins with `-`, they are the words of no line, a word is no number, label, modes, name or
+    /// answer in its place. `Memory` may come at any words of which none begins with `-`.
     pub fn read(alloc: Global, words: &[String]) -> Result<Command, CommandRefusal>
         ensures command { ReadsCommand result (command_of words.now) }
         ensures option { list_any is_option words.now ≡ true → IsUnknown result }

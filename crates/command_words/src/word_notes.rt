@@ -7,9 +7,9 @@ use run_endings::{MOST_SHOWN_BYTES, note_text};
 use std::alloc::{AllocError, Global};
 use word_line::{fault_text, form_text, help_text};
 
-/// Tells why the words are no command. Where they are the words of no line, clap says what is wrong and what the form of the
-/// command is, or which names are near. Where a word begins with `-`, the help stands behind the fault, and where a word is
-/// wrong in its place, the form of the command.
+/// Tells why the words are no command. Where they are the words of no line, clap says what is wrong and what the form
+/// of the command is, or which names are near. Where a word begins with `-`, the help stands behind the fault, and
+/// where a word is wrong in its place, the form of the command.
 pub fn note_words<K: Sink>(alloc: Global, words: &[String], fault: WordFault, sink: &mut K)
     ensures taken { K.taken sink.new ≡ K.taken sink.old }
     ensures count { K.faults sink.new ≡ K.faults sink.old }
@@ -39,8 +39,8 @@ fn note_lines<K: Sink>(text: Result<String, AllocError>, sink: &mut K)
     }
 }
 
-// What clap says of words that are those of no line. Each stands in it as a person is shown it, so that none brings a line
-// of its own, or what a terminal acts on.
+// What clap says of words that are those of no line. Each stands in it as a person is shown it, so that none brings a
+// line of its own, or what a terminal acts on.
 fn line_text(alloc: Global, words: &[String]) -> Result<String, AllocError> {
     let shown = shown_words(alloc, words)?;
     fault_text(alloc, &shown)

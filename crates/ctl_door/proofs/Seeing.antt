@@ -2,9 +2,9 @@
 use Rattle.std.proofs.Common.{◌≡◌, ◌∙◌, ℕ, List, [], ◌∷◌, ◌++◌, map, Option, Ok, refl, sym, ap, subst}
 use Rattle.link_ports.specs.Traffic.{Traffic}
 use Rattle.cynara_keys.specs.declared.results.Kind.{Kind}
-use Rattle.wire_messages.specs.Stream.{Hears}
-use Rattle.wire_messages.specs.declared.messages.Framed.{Framed}
-use Rattle.wire_messages.specs.declared.operations.Heard.TheVariants.{Replies}
+use Rattle.wire_reading.specs.Stream.{Hears}
+use Rattle.wire_fields.specs.declared.messages.Framed.{Framed}
+use Rattle.wire_fields.specs.declared.operations.Heard.TheVariants.{Replies}
 use Rattle.client_connection.specs.Reading.{Receives}
 use Rattle.ctl_door.specs.Told.{TookBytes}
 use Rattle.ctl_door.specs.Service.{agent_frame, end_frame, AreAgents, AreService}

@@ -2,7 +2,7 @@
 use Rattle.std.proofs.Common.{◌≡◌, ℕ, List, Option, None, subst}
 use Rattle.link_ports.specs.Traffic.{Traffic}
 use Rattle.link_ports.specs.LinkMarks.{LinkMarks}
-use Rattle.wire_messages.specs.declared.messages.Message.{Message}
+use Rattle.wire_fields.specs.declared.messages.Message.{Message}
 use Rattle.client_connection.specs.Giving.{GivesBackAny}
 use Rattle.admin_client.specs.Sending.{State, Kept, with_dial, Sends}
 use Rattle.ctl_door.specs.Replies.{Heard, Hears}

@@ -1,11 +1,11 @@
 -- Parts that are taken one after the other.
 use Rattle.std.proofs.Common.{◌≡◌, ◌∙◌, ℕ, List, [], ◌∷◌, ◌++◌, map, Option, Some, Result, Ok, refl, sym, ap, subst, append_assoc}
 use Rattle.link_ports.specs.Traffic.{Traffic, with_received}
-use Rattle.wire_messages.proofs.Streams.{hears_more, hears_then}
-use Rattle.wire_messages.specs.Stream.{Feeding, Hears, unfed}
-use Rattle.wire_messages.specs.declared.messages.Framed.{Framed}
-use Rattle.wire_messages.specs.declared.operations.Heard.{Heard}
-use Rattle.wire_messages.specs.declared.operations.Heard.TheVariants.{Replies}
+use Rattle.wire_reading.proofs.Streams.{hears_more, hears_then}
+use Rattle.wire_reading.specs.Stream.{Feeding, Hears, unfed}
+use Rattle.wire_fields.specs.declared.messages.Framed.{Framed}
+use Rattle.wire_fields.specs.declared.operations.Heard.{Heard}
+use Rattle.wire_fields.specs.declared.operations.Heard.TheVariants.{Replies}
 use Rattle.client_connection.specs.Reading.{Receives}
 use Rattle.client_connection.specs.declared.faults.Broken.{Broken}
 use Rattle.ctl_door.specs.declared.frames.Part.{Part}

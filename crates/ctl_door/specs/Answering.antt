@@ -1,12 +1,13 @@
 -- Whether a service answers: a check, and then a listing.
-use Rattle.std.specs.Prelude.{◌≡◌, ◌⊎◌, ℕ, Bool, true, false, if◌then◌else◌, List, [], ◌∷◌, Option, Some, None, Result, Ok, Err, codes}
+use Rattle.std.specs.Prelude.{◌≡◌, ◌⊎◌, ℕ, Bool, true, false, if◌then◌else◌, List, []}
+use Rattle.std.specs.Prelude.{◌∷◌, Option, Some, None, Result, Ok, Err, codes}
 use Rattle.std.specs.declared.alloc.AllocError.{AllocError}
 use Rattle.link_ports.specs.Traffic.{Traffic}
 use Rattle.link_ports.specs.LinkMarks.{LinkMarks}
 use Rattle.cynara_keys.specs.Key.{Question}
 use Rattle.cynara_keys.specs.declared.fields.FilterField.TheVariants.{Every, Exact}
-use Rattle.wire_messages.specs.declared.messages.Message.{Message}
-use Rattle.wire_messages.specs.declared.messages.Message.TheVariants as message
+use Rattle.wire_fields.specs.declared.messages.Message.{Message}
+use Rattle.wire_fields.specs.declared.messages.Message.TheVariants as message
 use Rattle.cynara_client.specs.declared.refusals.Checked.{Checked}
 use Rattle.cynara_client.specs.declared.refusals.ClientRefusal.{ClientRefusal}
 use Rattle.cynara_client.specs.declared.refusals.ClientRefusal.TheVariants as client
@@ -66,7 +67,9 @@ module _ {N L : Type 0} (link_faults : L → ℕ) (marks : L → LinkMarks) (tra
 
   -- Both were answered. Or the check was not, and no listing was asked for; or the listing was not.
   pub data Answers (result : Result (Unit {0}) DoorRefusal) (before after : N) : Type 0 where
-    no_check : (refusal : DoorRefusal) → result ≡ Err refusal → Checks (Err refusal) before after → Answers result before after
+    no_check : (refusal : DoorRefusal) → result ≡ Err refusal → Checks (Err refusal) before after
+        → Answers result before after
     checked : (between : N) → Checks (Ok tt) before between
-        → Asks link_faults marks traffic faults dials given_back probe_listing (λ heard. result ≡ listing_by heard) between after
+        → Asks link_faults marks traffic faults dials given_back probe_listing
+        (λ heard. result ≡ listing_by heard) between after
         → Answers result before after

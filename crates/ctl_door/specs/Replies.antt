@@ -4,17 +4,18 @@ use Rattle.std.specs.declared.alloc.AllocError.{AllocError}
 use Rattle.link_ports.specs.Traffic.{Traffic}
 use Rattle.link_ports.specs.LinkMarks.{LinkMarks}
 use Rattle.desk_state.specs.declared.refusals.Refusal.{Refusal}
-use Rattle.line_script.specs.Answers.{refusal_text}
+use Rattle.line_answers.specs.Answers.{refusal_text}
 use Rattle.bucket_eval.specs.declared.answers.Verdict.{Verdict}
 use Rattle.cynara_keys.specs.Key.{Question}
-use Rattle.wire_messages.specs.declared.messages.Message.{Message}
-use Rattle.wire_messages.specs.declared.messages.Message.TheVariants as message
+use Rattle.wire_fields.specs.declared.messages.Message.{Message}
+use Rattle.wire_fields.specs.declared.messages.Message.TheVariants as message
 use Rattle.client_connection.specs.Giving.{GivesBackAny}
 use Rattle.admin_client.specs.Sending.{State, with_dial, Sends}
 use Rattle.admin_client.specs.declared.refusals.AdminRefusal.{AdminRefusal}
 use Rattle.admin_client.specs.declared.refusals.AdminRefusal.TheVariants as admin
 use Rattle.ctl_door.specs.declared.refusals.DoorRefusal.{DoorRefusal}
-use Rattle.ctl_door.specs.declared.refusals.DoorRefusal.TheVariants.{Unavailable, BadReply, StoreFault, StoreDamaged, Refused as IsRefused, Memory}
+use Rattle.ctl_door.specs.declared.refusals.DoorRefusal.TheVariants.{Unavailable, BadReply, StoreFault}
+use Rattle.ctl_door.specs.declared.refusals.DoorRefusal.TheVariants.{StoreDamaged, Refused as IsRefused, Memory}
 use Rattle.ctl_door.specs.declared.commands.Obeyed.{Obeyed}
 use Rattle.ctl_door.specs.declared.commands.Obeyed.TheVariants.{Done, Refused}
 
@@ -55,7 +56,8 @@ module _ {N L : Type 0} (link_faults : L → ℕ) (marks : L → LinkMarks) (tra
   pub data AsksIfRoom {V : Type 0} (message : Message) (Follows : Heard → Result V DoorRefusal → Type 0)
       (result : Result V DoorRefusal) (before after : N) : Type 0 where
     asked : Asks message (λ heard. Follows heard result) before after → AsksIfRoom message Follows result before after
-    no_room : (error : AllocError) → result ≡ Err (Memory error) → after ≡ before → AsksIfRoom message Follows result before after
+    no_room : (error : AllocError) → result ≡ Err (Memory error) → after ≡ before
+        → AsksIfRoom message Follows result before after
 
 -- ---- a question
 

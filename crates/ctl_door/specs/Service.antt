@@ -3,11 +3,11 @@ use Rattle.std.specs.Prelude.{◌≡◌, ℕ, List, [], ◌∷◌, ◌++◌, map
 use Rattle.link_ports.specs.Told.{ChangesTold, AppendsTold}
 use Rattle.link_ports.specs.Traffic.{Traffic, with_sent, IsSilent}
 use Rattle.cynara_keys.specs.declared.results.Kind.{Kind}
-use Rattle.wire_messages.specs.Frame.{spelling}
-use Rattle.wire_messages.specs.Stream.{Hears}
-use Rattle.wire_messages.specs.declared.messages.Framed.{Framed}
-use Rattle.wire_messages.specs.declared.messages.Message.TheVariants.{ReadService, AgentHere, ServiceEnd}
-use Rattle.wire_messages.specs.declared.operations.Heard.TheVariants.{Replies}
+use Rattle.wire_reading.specs.Frame.{spelling}
+use Rattle.wire_reading.specs.Stream.{Hears}
+use Rattle.wire_fields.specs.declared.messages.Framed.{Framed}
+use Rattle.wire_fields.specs.declared.messages.Message.TheVariants.{ReadService, AgentHere, ServiceEnd}
+use Rattle.wire_fields.specs.declared.operations.Heard.TheVariants.{Replies}
 use Rattle.ctl_door.specs.declared.service_frames.ServiceSeen.{ServiceSeen}
 use Rattle.ctl_door.specs.declared.service_frames.Said.{Said}
 use Rattle.ctl_door.specs.declared.service_frames.Said.TheVariants as said

@@ -2,9 +2,9 @@
 use Rattle.std.specs.Prelude.{List, Option}
 use Rattle.link_ports.specs.Told.{ChangesTold, AppendsTold}
 use Rattle.link_ports.specs.Traffic.{Traffic, with_sent, IsSilent}
-use Rattle.wire_messages.specs.Frame.{spelling}
-use Rattle.wire_messages.specs.declared.messages.Framed.{Framed}
-use Rattle.wire_messages.specs.declared.messages.Message.TheVariants.{ReadState}
+use Rattle.wire_reading.specs.Frame.{spelling}
+use Rattle.wire_fields.specs.declared.messages.Framed.{Framed}
+use Rattle.wire_fields.specs.declared.messages.Message.TheVariants.{ReadState}
 use Rattle.desk_state.specs.DeskState.{DeskState}
 use Rattle.set_text.specs.Files.{files}
 use Rattle.ctl_door.specs.declared.frames.Part.{Part}

@@ -2,10 +2,10 @@
 use Rattle.std.specs.Prelude.{◌≡◌, ℕ, List, [], ◌∷◌, ◌++◌, map, Option, Some}
 use Rattle.link_ports.specs.Told.{IfTold}
 use Rattle.link_ports.specs.Traffic.{Traffic, with_received}
-use Rattle.wire_messages.specs.Stream.{Hears}
-use Rattle.wire_messages.specs.declared.messages.Framed.{Framed}
-use Rattle.wire_messages.specs.declared.messages.Message.TheVariants.{StateFile, StateEnd}
-use Rattle.wire_messages.specs.declared.operations.Heard.TheVariants.{Replies}
+use Rattle.wire_reading.specs.Stream.{Hears}
+use Rattle.wire_fields.specs.declared.messages.Framed.{Framed}
+use Rattle.wire_fields.specs.declared.messages.Message.TheVariants.{StateFile, StateEnd}
+use Rattle.wire_fields.specs.declared.operations.Heard.TheVariants.{Replies}
 use Rattle.ctl_door.specs.declared.frames.Part.{Part}
 use Rattle.ctl_door.specs.declared.frames.Told.{Told}
 use Rattle.ctl_door.specs.declared.frames.Told.TheVariants as told

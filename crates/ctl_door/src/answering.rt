@@ -1,7 +1,8 @@
 // Whether a service answers.
 ghost use Rattle.std.specs.Prelude.{◌≡◌, Ok, Err, if◌then◌else◌};
 ghost use Rattle.ctl_door.specs.Replies.{Asks};
-ghost use Rattle.ctl_door.specs.Answering.{Answers, Checks, fault_of, as_result, probe, probe_listing, listing_by, is_list};
+ghost use Rattle.ctl_door.specs.Answering.{Answers, Checks, fault_of, as_result};
+ghost use Rattle.ctl_door.specs.Answering.{probe, probe_listing, listing_by, is_list};
 ghost use Rattle.ctl_door.specs.declared.refusals.DoorRefusal.TheVariants.{Refused as IsRefused};
 
 use crate::asking::replies_to;
@@ -16,8 +17,8 @@ use wire_messages::Message;
 /// The name that is asked about. No policy has to name it.
 const PROBE: &[u8] = b"privctl";
 
-/// Whether the service answers a check, for which no agent is asked, and a listing. What it refuses of the check is an answer
-/// too. Else why not: of a check that was not answered no listing is asked for behind it. It may wait.
+/// Whether the service answers a check, for which no agent is asked, and a listing. What it refuses of the check is an
+/// answer too. Else why not: of a check that was not answered no listing is asked for behind it. It may wait.
 pub fn answers<N: Dial>(alloc: Global, dial: &mut N) -> Result<(), DoorRefusal>
     ensures { Answers N.Link.faults N.Link.marks N.Link.traffic N.faults N.dials N.given_back result dial.old dial.new }
 {
@@ -94,7 +95,8 @@ fn listed(replies: Vec<Message>) -> Result<(), DoorRefusal>
     Err(DoorRefusal::Refused)
 }
 
-// Whether the replies are the rows of a list and its end. A listing that is refused has one reply, which is none of them.
+// Whether the replies are the rows of a list and its end. A listing that is refused has one reply, which is none of
+// them.
 fn is_list(replies: &[Message]) -> bool
     ensures { result ≡ is_list replies.now }
 {

@@ -10,8 +10,8 @@ use link_ports::Dial;
 use std::alloc::Global;
 use wire_messages::Message;
 
-/// What the root bucket of the service answers to the question, with the buckets that it points to: the verdict of the reply to
-/// this very question. `Refused` where the service gave no verdict. The link is given back. It may wait.
+/// What the root bucket of the service answers to the question, with the buckets that it points to: the verdict of the
+/// reply to this very question. `Refused` where the service gave no verdict. The link is given back. It may wait.
 pub fn verdict_of<N: Dial>(
     alloc: Global,
     question: &Question,

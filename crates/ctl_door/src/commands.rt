@@ -1,6 +1,6 @@
 // A command.
 ghost use Rattle.std.specs.Prelude.{◌≡◌, Ok, IfOk};
-ghost use Rattle.line_script.specs.Answers.{refusal_text};
+ghost use Rattle.line_answers.specs.Answers.{refusal_text};
 ghost use Rattle.wire_messages.specs.Commands as carried;
 ghost use Rattle.ctl_door.specs.Replies.{AsksIfRoom, Becomes, BecomesBy, TellsRefusal, TellsDamage};
 
@@ -8,7 +8,7 @@ use crate::asking::replies_to;
 use crate::refusals::{DoorRefusal, damaged};
 use desk_ports::Bytes;
 use desk_state::{Command, Refusal};
-use line_script::{LineAnswer, RuleBroken, print};
+use line_answers::{LineAnswer, RuleBroken, print};
 use link_ports::Dial;
 use std::alloc::{AllocError, Global};
 use wire_messages::{Message, message_of};
@@ -22,9 +22,10 @@ pub enum Obeyed {
     Refused { answer: Bytes },
 }
 
-/// Sends the command to the service, once, and tells what became of it by the reply to this very command. `Unavailable` where
-/// nobody knows whether it was accepted; `StoreFault` and `StoreDamaged` where the service tells that of its disk; `Refused`
-/// where it refuses such commands, or none came back of what becomes of one. The link is given back. It may wait.
+/// Sends the command to the service, once, and tells what became of it by the reply to this very command. `Unavailable`
+/// where nobody knows whether it was accepted; `StoreFault` and `StoreDamaged` where the service tells that of its
+/// disk; `Refused` where it refuses such commands, or none came back of what becomes of one. The link is given back. It
+/// may wait.
 pub fn obey<N: Dial>(alloc: Global, command: &Command, dial: &mut N) -> Result<Obeyed, DoorRefusal>
     ensures { AsksIfRoom N.Link.faults N.Link.marks N.Link.traffic N.faults N.dials N.given_back
         (carried.message_of command.now) Becomes result dial.old dial.new }

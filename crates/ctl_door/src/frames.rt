@@ -39,7 +39,8 @@ pub(crate) enum Told {
 
 /// Reads the reply to `ReadState`, which was sent over the link. It may wait.
 pub(crate) fn read_parts<L: Link>(alloc: Global, link: &mut L) -> Result<Parts, DoorRefusal>
-    ensures told { IfOk result (λ told. TookState told.parts.items told.commit (L.traffic link.old) (L.traffic link.new)) }
+    ensures told { IfOk result
+        (λ told. TookState told.parts.items told.commit (L.traffic link.old) (L.traffic link.new)) }
     ensures ends { (L.marks link.new).ends ≡ (L.marks link.old).ends }
 {
     let mut feeder = Feeder::new(alloc, Heard::Replies);
@@ -68,7 +69,8 @@ pub(crate) fn push<T: Drop>(list: &mut Vec<T>, value: T) -> Result<(), DoorRefus
     }
 }
 
-// What the frame says of the state. Handed on by value, it is not gone through variant by variant here.
+// What the frame says of the state.
+// proof: handed on by value, so that it is not gone through variant by variant here.
 fn told_by(framed: Framed) -> Told
     ensures { Tells framed result }
 {

@@ -59,7 +59,8 @@ pub(crate) fn read_service<L: Link>(alloc: Global, link: &mut L) -> Result<Servi
     Err(DoorRefusal::NoState)
 }
 
-// What the frame says of the service. Handed on by value, it is not gone through variant by variant here.
+// What the frame says of the service.
+// proof: handed on by value, so that it is not gone through variant by variant here.
 fn said_by(framed: Framed) -> Said
     ensures { Says framed result }
 {

@@ -1,6 +1,6 @@
 // What a service tells of itself.
 ghost use Rattle.std.specs.Prelude.{◌≡◌, IfOk};
-ghost use Rattle.wire_messages.specs.Frame.{spelling};
+ghost use Rattle.wire_reading.specs.Frame.{spelling};
 ghost use Rattle.ctl_door.specs.Service.{Asks, AsksOver, question};
 
 use crate::frames::SEQUENCE;
@@ -12,7 +12,8 @@ use std::alloc::Global;
 use wire_messages::{EncodeRefusal, Message, encode_message_into};
 
 /// What the service tells of itself: exactly what the frames of its reply say. `NotKnown` where the service ended the
-/// connection in place of a reply, as one does that is too old to know the question. The link is given back. It may wait.
+/// connection in place of a reply, as one does that is too old to know the question. The link is given back. It may
+/// wait.
 pub fn service_seen<N: Dial>(alloc: Global, dial: &mut N) -> Result<ServiceSeen, DoorRefusal>
     ensures { IfOk result (λ seen. AsksOver N.Link.traffic N.given_back seen dial.old dial.new) }
 {

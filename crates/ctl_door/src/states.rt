@@ -2,7 +2,7 @@
 ghost use Rattle.std.specs.Prelude.{◌≡◌, IfOk};
 ghost use Rattle.set_text.specs.Files.{files};
 ghost use Rattle.ctl_door.specs.Joining.{AreJoined};
-ghost use Rattle.wire_messages.specs.Frame.{spelling};
+ghost use Rattle.wire_reading.specs.Frame.{spelling};
 ghost use Rattle.ctl_door.specs.State.{Asks, AsksOver, Tells, question};
 
 use crate::files::set_of;

@@ -98,8 +98,8 @@ fn other_name(
     Ok(Some(name))
 }
 
-// `cynara_` before this name, where that is a name which no bucket has or was given; and else before the first number, from this
-// one on, with which it is.
+// `cynara_` before this name, where that is a name which no bucket has or was given; and else before the first number,
+// from this one on, with which it is.
 fn name_to_give(
     alloc: Global,
     headings: &[Heading],

@@ -140,7 +140,8 @@ fn put_policy(
     number: u32,
     count: u32,
 ) -> Result<u32, AllocError>
-    ensures told { IfOk result (λ more. IsLeftOut (word.reason_against headings.now row.now) count more out.old out.new) }
+    ensures told { IfOk result
+        (λ more. IsLeftOut (word.reason_against headings.now row.now) count more out.old out.new) }
 {
     if let Some(reason) = reason_against(row, headings) {
         put_left_out(alloc, out, heading, line, number, reason)?;

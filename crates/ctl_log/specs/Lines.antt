@@ -19,7 +19,8 @@ key_text (Some key) = then_word key.client.now (then_word key.user.now key.privi
 -- `TIME BY BUCKET` and the key
 abbrev pub decider_text : Decider → List ℕ
 decider_text decider =
-    then_word decider.time.now (then_word decider.by.now (then_word decider.cause.bucket.now (key_text decider.cause.key)))
+    then_word decider.time.now
+    (then_word decider.by.now (then_word decider.cause.bucket.now (key_text decider.cause.key)))
 
 -- the privilege, with which the short form ends
 abbrev pub ending_text : List ℕ → Option Decider → List ℕ

@@ -1,6 +1,7 @@
 -- Times, as texts of RFC 3339 in UTC: in the order of their bytes, without the letter of the zone, they are in order of
 -- time.
-use Rattle.std.specs.Prelude.{ℕ, ◌-◌, Bool, false, not, if◌then◌else◌, ◌==◌, List, length, take, slice_get, Option, Some, None, codes}
+use Rattle.std.specs.Prelude.{ℕ, ◌-◌, Bool, false, not, if◌then◌else◌, ◌==◌, List}
+use Rattle.std.specs.Prelude.{length, take, slice_get, Option, Some, None, codes}
 use Rattle.std.specs.Ordering.{is_gt, nat_cmp}
 use Rattle.std.specs.Cmp.Lexicographic.{slice_cmp}
 use Rattle.std.specs.Str.{bytes_eq}

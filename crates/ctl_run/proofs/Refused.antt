@@ -5,7 +5,7 @@ use Rattle.desk_state.specs.Rules.{Refuses, fault}
 use Rattle.desk_state.specs.declared.commands.Command.{Command}
 use Rattle.desk_state.specs.declared.refusals.Refusal.{Refusal}
 use Rattle.desk_state.specs.declared.refusals.Refusal.TheVariants as refusal
-use Rattle.line_script.specs.Refusals.{names_a_rule}
+use Rattle.line_answers.specs.Refusals.{names_a_rule}
 use Rattle.line_script.specs.declared.steps.Step.TheVariants as step
 use Rattle.ctl_run.specs.Behind.{after, applied}
 

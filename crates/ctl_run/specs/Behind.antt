@@ -4,7 +4,7 @@ use Rattle.text_lines.specs.Lines.{lines_of}
 use Rattle.line_script.specs.Block.{Block, outside}
 use Rattle.line_script.specs.Grammar.{step_at}
 use Rattle.line_script.specs.Turn.{is_in_block}
-use Rattle.line_script.specs.declared.places.Place.TheVariants.{Admin}
+use Rattle.script_words.specs.declared.places.Place.TheVariants.{Admin}
 use Rattle.line_script.specs.declared.steps.Step.{Step}
 use Rattle.line_script.specs.declared.steps.Step.TheVariants as step
 use Rattle.desk_state.specs.DeskState.{DeskState}
@@ -23,8 +23,8 @@ abbrev pub after : DeskState → Step → DeskState
 after desk (step.Command command) = applied desk command (fault desk command)
 after desk other = desk
 
--- The state behind these lines, which are read from this block on; a refused line leaves the state as it was. None where a line
--- is outside the grammar, or the last one stands within a block.
+-- The state behind these lines, which are read from this block on; a refused line leaves the state as it was. None
+-- where a line is outside the grammar, or the last one stands within a block.
 abbrev pub state_behind : Block → DeskState → List (List ℕ) → Option DeskState
 state_behind block desk [] = if is_in_block block then None else Some desk
 state_behind block desk (line ∷ lines) =

@@ -1,11 +1,12 @@
 ghost use Rattle.std.specs.Prelude.{◌≡◌, true, Some, IfOk, OnOk};
-ghost use Rattle.line_script.specs.Refusals.{names_a_rule};
+ghost use Rattle.line_answers.specs.Refusals.{names_a_rule};
 ghost use Rattle.line_script.specs.declared.steps.Step.TheVariants as step;
 ghost use Rattle.ctl_run.specs.Behind.{after, made_by, RunsLine};
 
 use desk_ports::Bytes;
 use desk_state::{Command, Desk, Refusal};
-use line_script::{LineAnswer, LineRefusal, Place, Reader, RuleBroken, Step, print};
+use line_answers::{LineAnswer, RuleBroken, print};
+use line_script::{LineRefusal, Place, Reader, Step};
 use std::alloc::{AllocError, Global};
 use text_lines::split_line;
 
@@ -87,7 +88,7 @@ fn run_line(
     match reader.line(line) {
         Ok(step) => {
             let done = run_step(alloc, &step, number, ran);
-            // Handed on by value, it is not gone through variant by variant here.
+            // proof: handed on by value, so that it is not gone through variant by variant here.
             drop(step);
             done
         }

@@ -25,7 +25,8 @@ pairs_same one other = list_all (λ pair. is_same pair.0 pair.1) (zip one other)
 abbrev pub are_same : List SetFile → List SetFile → Bool
 are_same one other = if length one == length other then pairs_same one other else false
 
--- The script, run on a device before its first command, has no line outside the grammar and gives the same files, but for `stamp`.
+-- The script, run on a device before its first command, has no line outside the grammar and gives the same files, but
+-- for `stamp`.
 pub record MakesDevice (script : List ℕ) (desk : DeskState) : Type 0 where
   pub made : DeskState
   pub runs : made_by script fresh ≡ Some made

@@ -16,14 +16,14 @@ pub enum ExportRefusal {
     LongLine(u32),
     /// The script would be longer than one may be.
     LongScript,
-    /// The script, run in memory on a device before its first command, leads to another state. This tells of a mistake of the
-    /// program.
+    /// The script, run in memory on a device before its first command, leads to another state. This tells of a mistake
+    /// of the program.
     Differs,
     Memory(AllocError),
 }
 
-/// The script of the state, which was run in memory on a device before its first command, and led to the same files but for
-/// `stamp`, which counts the commands.
+/// The script of the state, which was run in memory on a device before its first command, and led to the same files but
+/// for `stamp`, which counts the commands.
 #[tactic(auto, using(crate::proofs::Making::makes))]
 pub fn checked_script(alloc: Global, desk: &Desk) -> Result<Bytes, ExportRefusal>
     ensures { IfOk result (λ script. word.MakesDevice script desk.now) }

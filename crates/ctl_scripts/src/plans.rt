@@ -13,8 +13,8 @@ pub struct Planned {
     pub refused: usize,
 }
 
-/// Runs the script on a copy of the state, and tells each line that is refused, each check of an install's privilege for a user,
-/// before or after, whose result changes, and counts. Nothing else changes.
+/// Runs the script on a copy of the state, and tells each line that is refused, each check of an install's privilege
+/// for a user, before or after, whose result changes, and counts. Nothing else changes.
 pub fn plan(alloc: Global, desk: &Desk, script: &[u8]) -> Result<Planned, RunFault> {
     let copy = match desk.copy() {
         Ok(copy) => copy,

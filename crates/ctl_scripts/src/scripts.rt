@@ -11,7 +11,8 @@ use std::alloc::{AllocError, Global};
 /// The most changes of one command. So many fit into one message to a service.
 const MOST_CHANGES: u32 = 500;
 
-/// The script of the state. It has no answer about a state whose lines are longer than a script's may be: run it to see.
+/// The script of the state. It has no answer about a state whose lines are longer than a script's may be: run it to
+/// see.
 pub(crate) fn script_of(alloc: Global, desk: &Desk) -> Result<Bytes, AllocError> {
     let mut out = Bytes::new(alloc);
     put(&mut out, "# the device at commit ")?;

@@ -9,8 +9,8 @@ use desk_ports::Bytes;
 use desk_state::Desk;
 use std::alloc::{AllocError, Global};
 
-/// What the root bucket answers, the tree of buckets with each policy that matches, and why the one decides that does. Where no
-/// policy names the client, that is told, and a near one.
+/// What the root bucket answers, the tree of buckets with each policy that matches, and why the one decides that does.
+/// Where no policy names the client, that is told, and a near one.
 pub fn explain(alloc: Global, desk: &Desk, question: &Question) -> Result<Bytes, AllocError> {
     let index = Index::build(alloc, desk.database())?;
     let mut scratch = Scratch::new(alloc)?;

@@ -3,12 +3,12 @@ use Rattle.std.proofs.Common.{◌≡◌, ◌<◌, ◌≤◌, ◌∙◌, ℕ, Boo
 use Rattle.std.specs.Prelude.{◌+◌, ◌-◌, nat_le, nat_lt, if◌then◌else◌}
 use Rattle.link_ports.specs.Told.{IfTold, KeepsTold, ChangesTold}
 use Rattle.link_ports.specs.Traffic.{Traffic, with_received, with_sent}
-use Rattle.wire_messages.specs.Frame.{length_of}
-use Rattle.wire_messages.specs.Stream.{IsOpen, wanted}
-use Rattle.wire_messages.proofs.Settling.{open_bound}
-use Rattle.wire_messages.specs.declared.messages.Framed.{Framed}
-use Rattle.wire_messages.specs.declared.messages.Message.{Message}
-use Rattle.wire_messages.specs.declared.operations.Heard.TheVariants.{Replies}
+use Rattle.wire_reading.specs.Frame.{length_of}
+use Rattle.wire_reading.specs.Stream.{IsOpen, wanted}
+use Rattle.wire_reading.proofs.Settling.{open_bound}
+use Rattle.wire_fields.specs.declared.messages.Framed.{Framed}
+use Rattle.wire_fields.specs.declared.messages.Message.{Message}
+use Rattle.wire_fields.specs.declared.operations.Heard.TheVariants.{Replies}
 use Rattle.client_connection.specs.Reading.{IsRead, Receives}
 use Rattle.client_connection.specs.Exchange.{Exchanges}
 use Rattle.client_connection.specs.Coming.{Comes}

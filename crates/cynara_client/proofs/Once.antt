@@ -6,9 +6,9 @@ use Rattle.desk_ports.specs.Faults.{next_count}
 use Rattle.link_ports.specs.Traffic.{Traffic, IsSilent}
 use Rattle.link_ports.specs.LinkMarks.{LinkMarks, fresh_marks}
 use Rattle.answer_cache.specs.Cache.{Cache}
-use Rattle.wire_messages.specs.declared.messages.Framed.{Framed}
-use Rattle.wire_messages.specs.declared.messages.Message.{Message}
-use Rattle.wire_messages.specs.declared.refusals.WireRefusal.{WireRefusal}
+use Rattle.wire_fields.specs.declared.messages.Framed.{Framed}
+use Rattle.wire_fields.specs.declared.messages.Message.{Message}
+use Rattle.wire_fields.specs.declared.refusals.WireRefusal.{WireRefusal}
 use Rattle.client_connection.specs.Giving.{GivesBack}
 use Rattle.client_connection.specs.Reading.{IsTrouble}
 use Rattle.client_connection.specs.Exchange.{Exchanges}

@@ -6,9 +6,9 @@ use Rattle.link_ports.specs.Traffic.{Traffic}
 use Rattle.link_ports.specs.LinkMarks.{LinkMarks}
 use Rattle.answer_cache.specs.Cache.{Asked, Cache, with_entries}
 use Rattle.bucket_eval.specs.declared.answers.Verdict.{Verdict}
-use Rattle.wire_messages.specs.declared.messages.Framed.{Framed}
-use Rattle.wire_messages.specs.declared.messages.Message.{Message}
-use Rattle.wire_messages.specs.declared.refusals.WireRefusal.{WireRefusal}
+use Rattle.wire_fields.specs.declared.messages.Framed.{Framed}
+use Rattle.wire_fields.specs.declared.messages.Message.{Message}
+use Rattle.wire_fields.specs.declared.refusals.WireRefusal.{WireRefusal}
 use Rattle.client_connection.specs.Giving.{GivesBack}
 use Rattle.client_connection.specs.Asking.{Asks, link_behind}
 use Rattle.client_connection.specs.declared.asking.Outcome.{Outcome}

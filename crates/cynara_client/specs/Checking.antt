@@ -6,8 +6,8 @@ use Rattle.link_ports.specs.LinkMarks.{LinkMarks}
 use Rattle.link_ports.specs.LinkContent.{LinkContent}
 use Rattle.bucket_eval.specs.declared.answers.Verdict.{Verdict}
 use Rattle.cynara_keys.specs.PolicyResult.{is_agent}
-use Rattle.wire_messages.specs.Frame.{spelling, with_sequence}
-use Rattle.wire_messages.specs.Lent.{asks}
+use Rattle.wire_reading.specs.Frame.{spelling, with_sequence}
+use Rattle.wire_reading.specs.Lent.{asks}
 use Rattle.answer_cache.specs.Cache.{Asked, Cache, answer_in, used, kept, without}
 use Rattle.client_connection.specs.Giving.{GivesBackAny}
 use Rattle.client_connection.specs.Asking.{Asks}

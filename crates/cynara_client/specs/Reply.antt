@@ -1,12 +1,12 @@
 -- What a client makes of the reply to a check.
 use Rattle.std.specs.Prelude.{ℕ, ◌==◌, nat_lt, if◌then◌else◌, Option, Some, None, Result, Ok, Err}
-use Rattle.wire_messages.specs.Operation.{number_of}
-use Rattle.wire_messages.specs.Message.{operation}
-use Rattle.wire_messages.specs.declared.messages.Framed.{Framed}
-use Rattle.wire_messages.specs.declared.messages.Message.{Message}
-use Rattle.wire_messages.specs.declared.messages.Message.TheVariants as message
-use Rattle.wire_messages.specs.declared.refusals.WireRefusal.{WireRefusal}
-use Rattle.wire_messages.specs.declared.refusals.WireRefusal.TheVariants.{Memory}
+use Rattle.wire_fields.specs.Operation.{number_of}
+use Rattle.wire_fields.specs.Message.{operation}
+use Rattle.wire_fields.specs.declared.messages.Framed.{Framed}
+use Rattle.wire_fields.specs.declared.messages.Message.{Message}
+use Rattle.wire_fields.specs.declared.messages.Message.TheVariants as message
+use Rattle.wire_fields.specs.declared.refusals.WireRefusal.{WireRefusal}
+use Rattle.wire_fields.specs.declared.refusals.WireRefusal.TheVariants.{Memory}
 use Rattle.client_core.specs.declared.steps.Fault.{Fault}
 use Rattle.client_core.specs.declared.steps.Fault.TheVariants as fault
 use Rattle.cynara_client.specs.declared.refusals.Checked.{Checked}

@@ -1,9 +1,9 @@
 // One frame of a question goes out on a link, and the machine hears what comes back.
 ghost use Rattle.std.specs.Prelude.{◌≡◌, ◌<◌, ◌≤◌, length};
-ghost use Rattle.wire_messages.specs.Stream.{IsOpen};
+ghost use Rattle.wire_reading.specs.Stream.{IsOpen};
 ghost use Rattle.client_connection.specs.Reading.{Receives, IsTrouble};
 ghost use Rattle.client_connection.specs.Exchange.{Exchanges};
-ghost use Rattle.wire_messages.specs.declared.operations.Heard.TheVariants.{Replies};
+ghost use Rattle.wire_fields.specs.declared.operations.Heard.TheVariants.{Replies};
 ghost use Rattle.client_core.specs.Asking.{wanted_at};
 ghost use Rattle.client_core.specs.Client.{waiting};
 ghost use Rattle.client_core.specs.Listening.{Listening};

@@ -14,7 +14,8 @@ bad_byte None = None
 -- the first rule of a bucket's name that the bytes break
 abbrev pub bucket_name_fault : List ℕ → Option BucketNameRefusal
 bucket_name_fault bytes =
-    if nat_lt most_bucket_name_bytes (length bytes) then Some TooLong else bad_byte (position (λ byte. not (is_word_byte byte)) bytes)
+    if nat_lt most_bucket_name_bytes (length bytes) then Some TooLong
+    else bad_byte (position (λ byte. not (is_word_byte byte)) bytes)
 
 abbrev pub is_bucket_name : List ℕ → Bool
 is_bucket_name bytes = is_none (bucket_name_fault bytes)

@@ -36,7 +36,8 @@ filter_field_text AnyStored = wildcard
 filter_field_text (ExactStored name) = name
 
 abbrev pub filter_field_of : List ℕ → FilterField
-filter_field_of text = if same_text text every then Every else (if same_text text wildcard then AnyStored else ExactStored text)
+filter_field_of text =
+    if same_text text every then Every else (if same_text text wildcard then AnyStored else ExactStored text)
 
 abbrev pub filter_field_fault : List ℕ → Option NameRefusal
 filter_field_fault text = if same_text text every then None else field_fault text

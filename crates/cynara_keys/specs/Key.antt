@@ -29,7 +29,8 @@ key_matches key question =
 -- a filter admits a key where each of its fields does
 abbrev pub filter_admits : Filter → Key → Bool
 filter_admits filter key =
-    field_admits filter.client key.client && (field_admits filter.user key.user && field_admits filter.privilege key.privilege)
+    field_admits filter.client key.client
+    && (field_admits filter.user key.user && field_admits filter.privilege key.privilege)
 
 -- keys are in the order of client, user and privilege in turn
 abbrev pub key_cmp : Key → Key → Ordering

@@ -14,7 +14,8 @@ bad_byte None = None
 -- the first rule of metadata that the bytes break
 abbrev pub metadata_fault : List ℕ → Option MetadataRefusal
 metadata_fault bytes =
-    if nat_lt most_metadata_bytes (length bytes) then Some TooLong else bad_byte (position (λ byte. not (is_visible byte)) bytes)
+    if nat_lt most_metadata_bytes (length bytes) then Some TooLong
+    else bad_byte (position (λ byte. not (is_visible byte)) bytes)
 
 abbrev pub is_metadata : List ℕ → Bool
 is_metadata bytes = is_none (metadata_fault bytes)

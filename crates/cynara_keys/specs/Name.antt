@@ -1,5 +1,6 @@
 -- Names of clients, users and privileges.
-use Rattle.std.specs.Prelude.{◌≡◌, ℕ, Bool, false, not, ◌||◌, nat_lt, ◌==◌, if◌then◌else◌, List, [], ◌∷◌, length, Option, Some, None, is_none}
+use Rattle.std.specs.Prelude.{◌≡◌, ℕ, Bool, false, not, ◌||◌, nat_lt, ◌==◌, if◌then◌else◌}
+use Rattle.std.specs.Prelude.{List, [], ◌∷◌, length, Option, Some, None, is_none}
 use Rattle.std.specs.List.{position}
 use Rattle.cynara_keys.specs.Text.{is_visible}
 use Rattle.cynara_keys.specs.Limits.{most_name_bytes}
@@ -22,7 +23,8 @@ abbrev pub name_fault : List ℕ → Option NameRefusal
 name_fault bytes =
     if length bytes == 0 then Some Empty
     else (if nat_lt most_name_bytes (length bytes) then Some TooLong
-    else bad_byte_or (position (λ byte. not (is_visible byte)) bytes) (if is_reserved bytes then Some Reserved else None))
+    else bad_byte_or (position (λ byte. not (is_visible byte)) bytes)
+    (if is_reserved bytes then Some Reserved else None))
 
 abbrev pub is_name : List ℕ → Bool
 is_name bytes = is_none (name_fault bytes)

@@ -27,8 +27,8 @@ pub enum BucketNameRefusal {
     Memory(AllocError),
 }
 
-/// The name of a bucket: 0 to 64 letters, digits, `_` or `-`. The empty one names the root bucket. Buckets' names are in
-/// the order of their bytes.
+/// The name of a bucket: 0 to 64 letters, digits, `_` or `-`. The empty one names the root bucket. Buckets' names are
+/// in the order of their bytes.
 #[derive(Debug, Drop)]
 pub struct BucketName {
     bytes: Shared,
@@ -80,8 +80,8 @@ impl BucketName {
         self.bytes.as_slice()
     }
 
-    /// An equal name, which shares the bytes: no memory is asked for. Refused only where they have as many owners already
-    /// as can be counted, which is 2^63.
+    /// An equal name, which shares the bytes: no memory is asked for. Refused only where they have as many owners
+    /// already as can be counted, which is 2^63.
     pub fn copy(&self) -> Result<BucketName, AllocError>
         ensures { IfOk result (λ copy. copy ≡ self.now) }
     {
@@ -91,8 +91,8 @@ impl BucketName {
     }
 }
 
-/// Whether the bytes are a bucket's name, which the metadata of a result that points to a bucket is. Takes no memory. One
-/// pass.
+/// Whether the bytes are a bucket's name, which the metadata of a result that points to a bucket is. Takes no memory.
+/// One pass.
 pub fn is_bucket_name(bytes: &[u8]) -> bool
     ensures { result ≡ is_bucket_name bytes.now }
 {

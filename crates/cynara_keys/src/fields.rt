@@ -51,7 +51,7 @@ impl Field {
     }
 }
 
-// Whether the text of a field is `*`, or these bytes.
+/// Whether the text of a key's field is `*`, or the bytes of this name. Takes no memory.
 pub fn field_matches(field: &[u8], name: &[u8]) -> bool
     ensures { result ≡ field_matches (field_of field.now) name.now }
 {

@@ -77,8 +77,8 @@ impl Key {
         Ok(Key::of_block(texts, client, user, privilege))
     }
 
-    /// The key of these texts, each `*` or a name, which stand in the packed bytes, each behind its count in two bytes, the
-    /// higher first. The packed bytes are copied at once.
+    /// The key of these texts, each `*` or a name, which stand in the packed bytes, each behind its count in two bytes,
+    /// the higher first. The packed bytes are copied at once.
     pub fn of_packed(
         alloc: Global,
         packed: &[u8],
@@ -224,7 +224,8 @@ impl Eq for Key {
 impl PartialOrd for Key {
     ghost partial_cmp = { as_partial_cmp key_cmp };
 
-    ghost laws = { partial_order_from_own_ties (Prim.search (comparing, rules)) (Prim.search (both_tied, comparing, rules)) };
+    ghost laws = { partial_order_from_own_ties (Prim.search (comparing, rules))
+        (Prim.search (both_tied, comparing, rules)) };
 
     fn partial_cmp(&self, other: &Key) -> Option<Ordering> {
         Some(self.cmp(other))

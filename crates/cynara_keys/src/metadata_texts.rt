@@ -55,8 +55,8 @@ impl Metadata {
         }
     }
 
-    /// Reads metadata from its bytes, all of them. Refuses, in this order, `TooLong` and `BadByte`, and `Memory` only for
-    /// bytes that are metadata. One pass.
+    /// Reads metadata from its bytes, all of them. Refuses, in this order, `TooLong` and `BadByte`, and `Memory` only
+    /// for bytes that are metadata. One pass.
     pub fn read(alloc: Global, bytes: &[u8]) -> Result<Metadata, MetadataRefusal>
         ensures text { IfOk result (λ text. text ≡ bytes.now) }
         ensures accepted { OnOk result (metadata_fault bytes.now ≡ None) }
@@ -80,8 +80,8 @@ impl Metadata {
         self.bytes.as_slice()
     }
 
-    /// Equal metadata, which shares the bytes: no memory is asked for. Refused only where they have as many owners already
-    /// as can be counted, which is 2^63.
+    /// Equal metadata, which shares the bytes: no memory is asked for. Refused only where they have as many owners
+    /// already as can be counted, which is 2^63.
     pub fn copy(&self) -> Result<Metadata, AllocError>
         ensures { IfOk result (λ copy. copy ≡ self.now) }
     {

@@ -50,8 +50,8 @@ impl Model for Name {
     ghost invariant = { λ name. name_fault name.bytes ≡ None };
 }
 
-/// The first rule of a name that the bytes break: `Empty`, `TooLong`, `BadByte` or `Reserved`. `None` where they are a name.
-/// Takes no memory. One pass.
+/// The first rule of a name that the bytes break: `Empty`, `TooLong`, `BadByte` or `Reserved`. `None` where they are a
+/// name. Takes no memory. One pass.
 pub fn name_fault(bytes: &[u8]) -> Option<NameRefusal>
     ensures fault { result ≡ name_fault bytes.now }
     ensures refuses { IfSome result (λ refusal. Refuses refusal (name_fault bytes.now)) }
@@ -72,8 +72,8 @@ pub fn name_fault(bytes: &[u8]) -> Option<NameRefusal>
 }
 
 impl Name {
-    /// Reads a name from its bytes, all of them. Refuses, in this order, `Empty`, `TooLong`, `BadByte` and `Reserved`, and
-    /// `Memory` only for bytes that are a name. One pass.
+    /// Reads a name from its bytes, all of them. Refuses, in this order, `Empty`, `TooLong`, `BadByte` and `Reserved`,
+    /// and `Memory` only for bytes that are a name. One pass.
     pub fn read(alloc: Global, bytes: &[u8]) -> Result<Name, NameRefusal>
         ensures name { IfOk result (λ name. name ≡ bytes.now) }
         ensures accepted { OnOk result (name_fault bytes.now ≡ None) }
@@ -94,8 +94,8 @@ impl Name {
         self.bytes.as_slice()
     }
 
-    /// An equal name, which shares the bytes: no memory is asked for. Refused only where they have as many owners already
-    /// as can be counted, which is 2^63.
+    /// An equal name, which shares the bytes: no memory is asked for. Refused only where they have as many owners
+    /// already as can be counted, which is 2^63.
     pub fn copy(&self) -> Result<Name, AllocError>
         ensures { IfOk result (λ copy. copy ≡ self.now) }
     {

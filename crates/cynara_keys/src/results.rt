@@ -43,8 +43,8 @@ impl Kind {
         Kind::FIRST_AGENT <= self && self <= Kind::LAST_AGENT
     }
 
-    /// Whether a result of this kind may have this metadata: none at DENY, NONE and ALLOW, at BUCKET a bucket's name, and
-    /// any at an agent's number.
+    /// Whether a result of this kind may have this metadata: none at DENY, NONE and ALLOW, at BUCKET a bucket's name,
+    /// and any at an agent's number.
     pub fn may_carry(self, metadata: &[u8]) -> bool
         ensures { result ≡ may_carry self.0 metadata.now }
     {
@@ -77,7 +77,8 @@ impl Model for PolicyResult {
 
 impl PolicyResult {
     /// A result of this kind with this metadata. Hands the metadata back exactly where the kind is DENY, NONE or ALLOW
-    /// and the metadata is not empty, or where the kind is BUCKET and the metadata is no bucket's name. Takes no memory.
+    /// and the metadata is not empty, or where the kind is BUCKET and the metadata is no bucket's name. Takes no
+    /// memory.
     pub fn of(kind: Kind, metadata: Metadata) -> Result<PolicyResult, Metadata>
         ensures result { IfOk result (λ made. made ≡ record { kind = kind.0; metadata = metadata }) }
         ensures accepted { IsOk result ↔ IsTrue (may_carry kind.0 metadata) }

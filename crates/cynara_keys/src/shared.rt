@@ -1,5 +1,5 @@
-// Bytes that do not change, which is what names, buckets' names and metadata keep. They stand in a block that all copies
-// share, in any thread, so a copy asks for no memory, and a copy and a move are a few machine words.
+// Bytes that do not change, which is what names, buckets' names and metadata keep. They stand in a block that all
+// copies share, in any thread, so a copy asks for no memory, and a copy and a move are a few machine words.
 ghost use Rattle.std.specs.Prelude.{◌≡◌, [], IfOk};
 
 use std::alloc::{AllocError, Global};
@@ -7,6 +7,7 @@ use std::fmt;
 use std::marker::Model;
 use std::sync::ArcSlice;
 
+/// Bytes that all their copies share.
 #[derive(Drop)]
 pub struct Shared {
     // None for no bytes, which take no memory.
@@ -24,13 +25,14 @@ impl Model for Shared {
 }
 
 impl Shared {
-    // No bytes. Takes no memory.
+    /// No bytes. Takes no memory.
     pub fn empty() -> Shared
         ensures { result ≡ [] }
     {
         Shared { block: None }
     }
 
+    /// A copy of these bytes in a block of its own. Fails only for want of memory, and never for no bytes.
     pub fn of(alloc: Global, bytes: &[u8]) -> Result<Shared, AllocError>
         ensures { IfOk result (λ shared. shared ≡ bytes.now) }
     {
@@ -41,6 +43,7 @@ impl Shared {
         Ok(Shared { block: Some(block) })
     }
 
+    /// The bytes. Takes no memory.
     pub fn as_slice(&self) -> &[u8]
         ensures { result.now ≡ self.now }
     {
@@ -50,7 +53,8 @@ impl Shared {
         }
     }
 
-    // The same bytes. Takes no memory; fails only where they have as many owners as can be counted.
+    /// The same bytes, in the block that all copies share. Takes no memory; fails only where they have as many owners
+    /// as can be counted.
     pub fn copy(&self) -> Result<Shared, AllocError>
         ensures { IfOk result (λ copy. copy ≡ self.now) }
     {

@@ -1,8 +1,8 @@
 -- From what a store recovers to, to what its folder keeps.
-use Rattle.std.proofs.Common.{◌≡◌, ℕ, List, Option, Some, Result, Ok, Err, ◌⊎◌, ◌<◌, refl, ap, sym, ◌∙◌, inl, inr}
+use Rattle.std.proofs.Common.{◌≡◌, ℕ, List, Option, Some, Result, Ok, Err, ◌⊎◌, ◌<◌, refl, ap, sym, subst, ◌∙◌, inl, inr}
 use Rattle.desk_ports.specs.declared.file_sets.SetFile.{SetFile}
 use Rattle.desk_ports.specs.FileMap.{FileMap}
-use Rattle.desk_ports.specs.Disk.{DiskState, WhereTold, IsTouchedOnly, with_all_durable}
+use Rattle.desk_ports.specs.Disk.{DiskState, WhereTold, with_all_durable}
 use Rattle.desk_ports.specs.Moments.{LeavesOnly}
 use Rattle.desk_ports.proofs.Moments.{LeavesOnly-more}
 use Rattle.guard_files.specs.Mounted.{EndsAtRest, IfDamaged as IfStoreDamaged}
@@ -16,7 +16,7 @@ use Rattle.set_text.specs.Fault.{Fault, whole}
 use Rattle.set_text.specs.FileNames.{stamp}
 use Rattle.set_text.specs.Reading.{read_of}
 use Rattle.desk_keeper.specs.Kept.{desk_of_set, Standing, of_store, of_set, standing_of_set, standing_of, standing, as_told, kept}
-use Rattle.desk_keeper.specs.Keeping.{IsKept, EndsKept, IfDamaged, LeavesDamaged, IsOlder, IsBeforeOrAfter}
+use Rattle.desk_keeper.specs.Keeping.{IsKept, EndsKept, IfDamaged, LeavesDamaged, SparesDamaged, IsOlder, IsBeforeOrAfter, count_after_refusal}
 use Rattle.desk_keeper.specs.parts.Reading.{RefusesSet, NamesStamp, refused}
 use Rattle.desk_keeper.specs.declared.refusals.KeeperRefusal.{KeeperRefusal}
 use Rattle.desk_keeper.specs.declared.refusals.KeeperRefusal.TheVariants.{StoreFault, Damaged, Memory}
@@ -138,43 +138,56 @@ older-damage told last found (Damaged file line) names older finds =
     )
 older-damage told last found (Memory error) names older finds = tt
 
--- a damaged store was left as it was found, and one that was read is not damaged
+-- no call of the disk failed where an older state was found
+pub stamp-count : (refusal : KeeperRefusal) (count : ℕ) → NamesStamp refusal → count_after_refusal refusal count ≡ count
+stamp-count StoreFault count names = absurd names
+stamp-count (Damaged file line) count names = refl
+stamp-count (Memory error) count names = refl
+
+-- a damaged folder was left as it was found: where it was looked at, and where the set that was found was refused
 pub store-unchanged : (told now : Option DiskState) (refusal : VaultRefusal)
     → IfStoreDamaged refusal
     (λ file. WhereTold told (λ before. (recover before.current ≡ Err file) × (now ≡ Some (with_all_durable before))))
     → WhereTold told (λ before. LeavesDamaged (refused refusal) before now)
-store-unchanged told now vault.StoreFault damaged = λ before said file is. tt
-store-unchanged told now (vault.Damaged named) damaged = λ before said file is. (damaged before said).1
-store-unchanged told now (vault.Memory error) damaged = λ before said file is. tt
+store-unchanged told now vault.StoreFault damaged = λ before said. tt
+store-unchanged told now (vault.Damaged named) damaged = λ before said. (damaged before said).1
+store-unchanged told now (vault.Memory error) damaged = λ before said. tt
 
-pub set-unchanged : (told now : Option DiskState) (held : Option (List SetFile)) (refusal : KeeperRefusal)
-    → WhereTold told (λ before. recover before.current ≡ Ok held)
-    → WhereTold told (λ before. LeavesDamaged refusal before now)
-set-unchanged told now held refusal found = λ before said file is. absurd (whole_or_damaged (sym (found before said) ∙ is))
+pub looked-unchanged : (before : DiskState) (now : Option DiskState) (refusal : KeeperRefusal)
+    → now ≡ Some (with_all_durable before) → LeavesDamaged refusal before now
+looked-unchanged before now StoreFault is = tt
+looked-unchanged before now (Damaged file line) is = is
+looked-unchanged before now (Memory error) is = tt
+
+-- behind the judgement no damage is told
+pub settled-damage : (refusal : VaultRefusal) (P : Fault → Type 0) → IfStoreDamaged refusal (λ file. ⊥)
+    → IfDamaged (refused refusal) P
+settled-damage vault.StoreFault P none = tt
+settled-damage (vault.Damaged file) P none = absurd none
+settled-damage (vault.Memory error) P none = tt
+
+-- what stands for a state is not damaged
+pub kept-spared : {D : Type 0} (moment : D → ℕ) (left_since : D → ℕ → FileMap → Type 0) (old new : D) (before : DiskState)
+    (desk : DeskState)
+    → kept before.current ≡ Ok desk → SparesDamaged moment left_since old new before
+kept-spared moment left_since old new before desk stands fault is = absurd (kept_or_damaged (sym stands ∙ is))
   where
-    whole_or_damaged : {file : List ℕ} → Ok held ≡ Err file → ⊥
-    whole_or_damaged same = cc
+    kept_or_damaged : Ok desk ≡ Err fault → ⊥
+    kept_or_damaged same = cc
 
 -- ---- what is read behind a refused mount
 
 same-told : (told : Option DiskState) (one other : DiskState) → told ≡ Some one → told ≡ Some other → one ≡ other
 same-told told one other first second = let same = sym first ∙ second in cc
 
-pub store-still : (told now : Option DiskState) (refusal : VaultRefusal)
-    → IfStoreDamaged refusal
-    (λ file. WhereTold told (λ before. (recover before.current ≡ Err file) × (now ≡ Some (with_all_durable before))))
-    → WhereTold told (λ before. IfDamaged (refused refusal) (λ fault. WhereTold now (λ after. kept after.current ≡ Err fault)))
-store-still told now vault.StoreFault damaged before said = tt
-store-still told now (vault.Damaged file) damaged before said =
+-- it is damaged as it was told, since it is what was there
+pub still-damaged : (told now : Option DiskState) (Is : FileMap → Fault → Type 0) (refusal : KeeperRefusal)
+    → IfDamaged refusal (λ fault. WhereTold told (λ before. Is before.current fault))
+    → WhereTold told (λ before. LeavesDamaged refusal before now)
+    → WhereTold told (λ before. IfDamaged refusal (λ fault. WhereTold now (λ after. Is after.current fault)))
+still-damaged told now Is StoreFault damaged left before said = tt
+still-damaged told now Is (Damaged file line) damaged left before said =
     λ after is.
-    let left = damaged before said in
-    kept-of after.current (Err file)
-    (ap (λ (at : DiskState). recover at.current) (same-told now after (with_all_durable before) is left.1) ∙ left.0)
-store-still told now (vault.Memory error) damaged before said = tt
-
--- a store at rest reads as what it holds
-pub at-rest-current : (held : Option (List SetFile)) (now : Option DiskState) → EndsAtRest held now → WhereTold now IsTouchedOnly
-    → WhereTold now (λ after. recover after.current ≡ Ok held)
-at-rest-current held now (rest, is, left) touched after now_is =
-    ap (λ (at : DiskState). recover at.current) (same-told now after rest now_is is)
-    ∙ settled_leaves held rest left.settled rest.current (touched rest is)
+    subst (λ (at : DiskState). Is at.current (record { file = file; line = line }))
+    (same-told now (with_all_durable before) after (left before said) is) (damaged before said)
+still-damaged told now Is (Memory error) damaged left before said = tt

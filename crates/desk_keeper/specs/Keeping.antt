@@ -4,8 +4,8 @@ use Rattle.desk_ports.specs.declared.file_sets.SetFile.{SetFile}
 use Rattle.desk_ports.specs.Faults.{next_count}
 use Rattle.desk_ports.specs.FileMap.{FileMap}
 use Rattle.desk_ports.specs.Disk.{DiskState, MayLeave, with_all_durable}
+use Rattle.desk_ports.specs.Moments.{LeavesOnly}
 use Rattle.guard_files.specs.ListFile.{IsCurrent}
-use Rattle.guard_files.specs.Recovery.{recover}
 use Rattle.guard_files.specs.Settled.{IsSettled}
 use Rattle.desk_state.specs.DeskState.{DeskState}
 use Rattle.set_text.specs.Fault.{Fault, whole}
@@ -38,12 +38,15 @@ IfDamaged StoreFault P = Unit {0}
 IfDamaged (Damaged file line) P = P (record { file = file; line = line })
 IfDamaged (Memory error) P = Unit {0}
 
--- Where the store itself is damaged, as by its list or an absent file, a refusal that names damage changed nothing but
--- that all is durable now.
+-- A refusal that names damage changed nothing but that all is durable now: each file of the folder is there as it was.
 abbrev pub LeavesDamaged : KeeperRefusal → DiskState → Option DiskState → Type 0
-LeavesDamaged refusal before told =
-    (file : List ℕ) → recover before.current ≡ Err file
-    → IfDamaged refusal (λ fault. told ≡ Some (with_all_durable before))
+LeavesDamaged refusal before told = IfDamaged refusal (λ fault. told ≡ Some (with_all_durable before))
+
+-- Where the folder stands for no state, a stop at any moment of the call leaves what a stop at entry may leave, whatever
+-- the call answers: nothing is written or removed before the set is judged.
+abbrev pub SparesDamaged : {D : Type 0} → (D → ℕ) → (D → ℕ → FileMap → Type 0) → D → D → DiskState → Type 0
+SparesDamaged moment left_since old new before =
+    (fault : Fault) → kept before.current ≡ Err fault → LeavesOnly moment left_since old new (MayLeave before)
 
 -- only a fault of the store raises the disk's count, by one
 abbrev pub count_after_refusal : KeeperRefusal → ℕ → ℕ

@@ -1,5 +1,5 @@
--- What a folder's files stand for, whatever a stop made of them: a policy state, or the damage by which they stand for none
--- (`standing`); and the same as a refusal tells it, by a file and a line (`kept`).
+-- What a folder's files stand for, whatever a stop made of them: a policy state, or the damage by which they stand for
+-- none (`standing`); and the same as a refusal tells it, by a file and a line (`kept`).
 use Rattle.std.specs.Prelude.{ℕ, List, Option, Some, None, Result, Ok, Err}
 use Rattle.desk_ports.specs.declared.file_sets.SetFile.{SetFile}
 use Rattle.desk_ports.specs.FileMap.{FileMap}
@@ -33,7 +33,8 @@ standing_of (Ok held) = standing_of_set (desk_of_set held)
 unfoldable pub standing : FileMap → Standing
 standing files = standing_of (recover files)
 
--- As a refusal tells it, a damaged store names its file as a whole: so does a set one of whose files is refused as a whole.
+-- As a refusal tells it, a damaged store names its file as a whole: so does a set one of whose files is refused as a
+-- whole.
 abbrev pub as_told : Standing → Result DeskState Fault
 as_told (Ok desk) = Ok desk
 as_told (Err (of_store file)) = Err (whole file)

@@ -5,13 +5,13 @@ ghost use Rattle.desk_ports.specs.Disk.{WhereTold};
 ghost use Rattle.desk_ports.specs.Moments.{LeavesOnly};
 ghost use Rattle.desk_keeper.specs.Kept.{desk_of_set, kept};
 ghost use Rattle.guard_files.specs.Mounted.{RecoversAsAllowed};
-ghost use Rattle.desk_keeper.specs.Keeping.{EndsKept, IfDamaged, LeavesDamaged, count_after_mount};
+ghost use Rattle.desk_keeper.specs.Keeping.{EndsKept, IfDamaged, LeavesDamaged, SparesDamaged, count_after_mount};
 ghost use Rattle.desk_keeper.specs.parts.Reading.{RefusesSet, refused};
 
 use crate::refusals::KeeperRefusal;
 use desk_ports::{Disk, FileSet};
 use desk_state::Desk;
-use guard_files::{Mounted, VaultRefusal};
+use guard_files::{Mounted, VaultRefusal, look, settle};
 use set_text::{TextRefusal, read};
 use std::alloc::Global;
 use std::marker::Model;
@@ -35,9 +35,10 @@ impl Model for KeptDesk {
 }
 
 impl KeptDesk {
-    /// Brings the folder to rest, as `guard_files::settle` does, and reads the policy state that it keeps; a folder
-    /// without a set keeps the one before the first command. Refuses `StoreFault`, where a call of the disk failed;
-    /// `Damaged`, with the file and line of the first fault; and `Memory`.
+    /// Finds what the folder holds, as `guard_files::look` does, and reads the policy state that this stands for; a
+    /// folder without a set stands for the one before the first command. Only then is the folder brought to rest, as
+    /// `guard_files::settle` does: what stands for no state is left as it is. Refuses `StoreFault`, where a call of the
+    /// disk failed; `Damaged`, with the file and line of the first fault; and `Memory`.
     pub fn find<D: Disk>(alloc: Global, disk: &mut D) -> Result<KeptDesk, KeeperRefusal>
         ensures desk { IfOk result (λ found. WhereTold (D.state disk.old)
             (λ before. kept before.current ≡ Ok found.desk)) }
@@ -47,17 +48,24 @@ impl KeptDesk {
             (λ before. LeavesOnly D.moment D.left_since disk.old disk.new (RecoversAsAllowed before)) }
         ensures damaged { IfErr result (λ refusal. IfDamaged refusal (λ fault. WhereTold (D.state disk.old)
             (λ before. kept before.current ≡ Err fault))) }
+
+        // A damaged folder holds what it held.
         ensures unchanged { IfErr result (λ refusal. WhereTold (D.state disk.old)
             (λ before. LeavesDamaged refusal before (D.state disk.new))) }
+        ensures spared { WhereTold (D.state disk.old) (SparesDamaged D.moment D.left_since disk.old disk.new) }
         ensures count { D.faults disk.new ≡ count_after_mount result (D.faults disk.old) }
     {
-        let found = match Mounted::find(alloc, disk) {
+        let found = match look(alloc, disk) {
             Ok(found) => found,
             Err(refusal) => return Err(refusal_of(refusal)),
         };
-        match desk_of(alloc, found.held()) {
-            Ok(desk) => Ok(KeptDesk { found, desk }),
-            Err(refusal) => Err(refusal),
+        let desk = match desk_of(alloc, found.held()) {
+            Ok(desk) => desk,
+            Err(refusal) => return Err(refusal),
+        };
+        match settle(alloc, disk, found) {
+            Ok(found) => Ok(KeptDesk { found, desk }),
+            Err(refusal) => Err(refusal_of(refusal)),
         }
     }
 

@@ -10,7 +10,8 @@ ghost use Rattle.desk_state.specs.Rules.{Refuses, fault};
 ghost use Rattle.set_text.specs.Files.{files};
 ghost use Rattle.desk_keeper.specs.Kept.{kept};
 ghost use Rattle.desk_keeper.specs.parts.Reading.{NamesStamp};
-ghost use Rattle.desk_keeper.specs.Keeping.{IsKept, EndsKept, IfDamaged, LeavesDamaged, count_after_refusal, count_after_mount};
+ghost use Rattle.desk_keeper.specs.Keeping.{IsKept, EndsKept, IfDamaged, LeavesDamaged, SparesDamaged};
+ghost use Rattle.desk_keeper.specs.Keeping.{count_after_refusal, count_after_mount};
 ghost use Rattle.desk_keeper.specs.Keeping.{IsOlder, IsBeforeOrAfter};
 
 use crate::folders::{KeptDesk, desk_of, refusal_of};
@@ -40,7 +41,8 @@ pub struct Keeper<'d, D: Disk> {
 }
 
 impl<'d, D: Disk> Keeper<'d, D> {
-    /// Mounts the folder, as `KeptDesk::find` does, and keeps its disk. A refusal, as of that call, hands the disk back.
+    /// Mounts the folder, as `KeptDesk::find` does, and keeps its disk. A refusal, as of that call, hands the disk
+    /// back.
     pub fn mount(alloc: Global, disk: &'d mut D) -> Result<Keeper<'d, D>, Unkept<'d, D>>
         ensures decided { IfOk result (λ keeper. (keeper.read && keeper.vault.decided) ≡ true) }
         ensures desk { IfOk result (λ keeper. WhereTold (D.state disk.old)
@@ -59,6 +61,8 @@ impl<'d, D: Disk> Keeper<'d, D> {
             (λ before. kept before.current ≡ Err fault))) }
         ensures unchanged { IfErr result (λ left. WhereTold (D.state disk.old)
             (λ before. LeavesDamaged left.refusal before (D.state left.disk.now))) }
+        ensures spared { IfErr result (λ left. WhereTold (D.state disk.old)
+            (SparesDamaged D.moment D.left_since disk.old left.disk.now)) }
         ensures cause { IfErr result
             (λ left. D.faults left.disk.now ≡ count_after_refusal left.refusal (D.faults disk.old)) }
         ensures handed_back { IfErr result (λ left. left.disk.ghost_name ≡ disk.entry.ghost_name) }
@@ -89,7 +93,7 @@ impl<'d, D: Disk> Keeper<'d, D> {
 
     /// Settles what the folder keeps, as a mount does, from whatever state. Refuses as a mount does; and `Damaged`,
     /// with the file `stamp` and line 0, where the commit found is below that of `desk`, which no stop leads to. A
-    /// refusal leaves the keeper undecided, and `desk` as it was.
+    /// refusal leaves the keeper undecided, and `desk` as it was; one that names damage leaves each file as it was.
     pub fn remount(&mut self) -> Result<(), KeeperRefusal>
         ensures decided { OnOk result ((self.new.read && self.new.vault.decided) ≡ true) }
         ensures undecided { OnErr result ((self.new.read && self.new.vault.decided) ≡ false) }
@@ -107,6 +111,8 @@ impl<'d, D: Disk> Keeper<'d, D> {
             ⊎ IsOlder self.old.desk before.current fault))) }
         ensures unchanged { IfErr result (λ refusal. WhereTold (D.state self.old.vault.disk.now)
             (λ before. LeavesDamaged refusal before (D.state self.new.vault.disk.now))) }
+        ensures spared { WhereTold (D.state self.old.vault.disk.now)
+            (SparesDamaged D.moment D.left_since self.old.vault.disk.now self.new.vault.disk.now) }
 
         // What is read behind the call is damaged as it was told.
         ensures still_damaged { IfErr result (λ refusal. WhereTold (D.state self.old.vault.disk.now)
@@ -117,15 +123,20 @@ impl<'d, D: Disk> Keeper<'d, D> {
         ensures same_disk { self.new.vault.disk.ghost_name ≡ self.old.vault.disk.ghost_name }
     {
         self.read = false;
-        if let Err(refusal) = self.vault.remount() {
-            return Err(refusal_of(refusal));
-        }
-        let desk = match desk_of(self.alloc, self.vault.held()) {
+        let found = match self.vault.look() {
+            Ok(found) => found,
+            Err(refusal) => return Err(refusal_of(refusal)),
+        };
+        let desk = match desk_of(self.alloc, found.held()) {
             Ok(desk) => desk,
             Err(refusal) => return Err(refusal),
         };
         if desk.commit() < self.desk.commit() {
             return Err(older(self.alloc));
+        }
+        match self.vault.settle(found) {
+            Ok(()) => {}
+            Err(refusal) => return Err(refusal_of(refusal)),
         }
         self.desk = desk;
         self.read = true;

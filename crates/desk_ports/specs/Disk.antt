@@ -14,8 +14,8 @@ pub record DiskState : Type 0 where
 abbrev pub IsTouchedOnly : DiskState → Type 0
 IsTouchedOnly state = AgreeOutside state.touched state.current state.durable
 
--- A stop now may leave this map: it is as the durable one at every untouched name. A touched name may hold any bytes, or
--- none.
+-- A stop now may leave this map: it is as the durable one at every untouched name. A touched name may hold any bytes,
+-- or none.
 abbrev pub MayLeave : DiskState → FileMap → Type 0
 MayLeave state left = AgreeOutside state.touched left state.durable
 
@@ -31,8 +31,8 @@ with_touched state name content = record {
 abbrev pub with_all_durable : DiskState → DiskState
 with_all_durable state = record { current = state.current; durable = state.current; touched = no_names }
 
--- A call on this name failed. The name holds anything or nothing now, and is touched, or the call has changed nothing. All
--- else is as before.
+-- A call on this name failed. The name holds anything or nothing now, and is touched, or the call has changed nothing.
+-- All else is as before.
 pub record IsDisturbedAt (before : DiskState) (name : List ℕ) (after : DiskState) : Type 0 where
   pub durable : after.durable ≡ before.durable
   pub elsewhere : (other : List ℕ) → bytes_eq name other ≡ false → after.current other ≡ before.current other
@@ -53,7 +53,8 @@ Gives old name content new = WhereTold old (λ before. new ≡ Some (with_touche
 
 -- The call changed nothing but this name.
 abbrev pub Disturbs : Option DiskState → List ℕ → Option DiskState → Type 0
-Disturbs old name new = WhereTold old (λ before. (after : DiskState) × (new ≡ Some after) × IsDisturbedAt before name after)
+Disturbs old name new =
+    WhereTold old (λ before. (after : DiskState) × (new ≡ Some after) × IsDisturbedAt before name after)
 
 -- The call made all durable.
 abbrev pub MakesDurable : Option DiskState → Option DiskState → Type 0

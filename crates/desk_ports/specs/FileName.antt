@@ -1,5 +1,6 @@
 -- Names of files in a folder that this product keeps.
-use Rattle.std.specs.Prelude.{◌≡◌, ℕ, Bool, not, ◌&&◌, ◌||◌, nat_lt, nat_le, ◌==◌, if◌then◌else◌, List, length, Option, Some, None}
+use Rattle.std.specs.Prelude.{◌≡◌, ℕ, Bool, not, ◌&&◌, ◌||◌, nat_lt, nat_le}
+use Rattle.std.specs.Prelude.{◌==◌, if◌then◌else◌, List, length, Option, Some, None}
 use Rattle.std.specs.List.{position}
 use Rattle.desk_ports.specs.declared.file_names.FileNameRefusal.{FileNameRefusal}
 use Rattle.desk_ports.specs.declared.file_names.FileNameRefusal.TheVariants.{Empty, TooLong, BadByte, Memory}

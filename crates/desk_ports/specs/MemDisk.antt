@@ -12,8 +12,8 @@ use Rattle.desk_ports.specs.declared.file_sets.SetFile.{SetFile}
 use Rattle.desk_ports.specs.declared.disk_calls.DiskCall.{DiskCall}
 use Rattle.desk_ports.specs.declared.disk_calls.RecordedCall.{RecordedCall}
 
--- The files that it was made from; the record of its calls, each done or failed, the first of them first; how many calls
--- were made; the numbers of the calls that are to fail, the first call being 1; and how many calls have failed.
+-- The files that it was made from; the record of its calls, each done or failed, the first of them first; how many
+-- calls were made; the numbers of the calls that are to fail, the first call being 1; and how many calls have failed.
 pub record RecordedDisk : Type 0 where
   pub files : List SetFile
   pub calls : List RecordedCall
@@ -78,4 +78,5 @@ state_after disk count = after_calls disk.files (take count disk.calls)
 
 -- a stop after some number of calls, at least so many, may have left this map
 abbrev pub LeftSince : RecordedDisk → ℕ → FileMap → Type 0
-LeftSince disk since left = (count : ℕ) × (since ≤ count) × (count ≤ length disk.calls) × MayLeave (state_after disk count) left
+LeftSince disk since left =
+    (count : ℕ) × (since ≤ count) × (count ≤ length disk.calls) × MayLeave (state_after disk count) left

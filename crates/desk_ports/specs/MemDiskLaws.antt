@@ -1,5 +1,6 @@
 -- A disk in memory keeps the laws of disks.
-use Rattle.std.specs.Prelude.{◌≡◌, ◌≤◌, ℕ, true, false, if◌then◌else◌, List, [], ◌∷◌, length, fold, Option, Some, None, refl}
+use Rattle.std.specs.Prelude.{◌≡◌, ◌≤◌, ℕ, true, false, if◌then◌else◌, List, []}
+use Rattle.std.specs.Prelude.{◌∷◌, length, fold, Option, Some, None, refl}
 use Rattle.std.proofs.Common.{sym, ◌∙◌, ap, subst, cond, arith}
 use Rattle.std.proofs.Math.Seq.{take-length}
 use Rattle.std.proofs.lemmas.Bool.{or_parts}
@@ -34,12 +35,14 @@ failed_touches state Sync only = only
 
 call_touches : (state : DiskState) (made : RecordedCall) → IsTouchedOnly state → IsTouchedOnly (after_call state made)
 call_touches state made only =
-    elim made.is_done as (λ is. IsTouchedOnly (if is then after_done state made.call else after_failed state made.call)) [
+    elim made.is_done as (λ is.
+    IsTouchedOnly (if is then after_done state made.call else after_failed state made.call)) [
       | true ↦ done_touches state made.call only
       | false ↦ failed_touches state made.call only
     ]
 
-calls_touch : (calls : List RecordedCall) (state : DiskState) → IsTouchedOnly state → IsTouchedOnly (fold after_call state calls)
+calls_touch : (calls : List RecordedCall) (state : DiskState) → IsTouchedOnly state
+    → IsTouchedOnly (fold after_call state calls)
 calls_touch [] state only = only
 calls_touch (made ∷ calls) state only = calls_touch calls (after_call state made) (call_touches state made only)
 
@@ -53,9 +56,11 @@ pub told_state : (disk : RecordedDisk) (state : DiskState) → Some (state_of di
 unfolding in_some
 told_state disk state told = ap (in_some state) told
 
-pub touched_only_of : (disk : RecordedDisk) (state : DiskState) → Some (state_of disk) ≡ Some state → IsTouchedOnly state
+pub touched_only_of : (disk : RecordedDisk) (state : DiskState) → Some (state_of disk) ≡ Some state
+    → IsTouchedOnly state
 touched_only_of disk state told =
-    subst IsTouchedOnly (told_state disk state told) (calls_touch disk.calls (fresh_state disk.files) (λ name outside. refl))
+    subst IsTouchedOnly (told_state disk state told)
+    (calls_touch disk.calls (fresh_state disk.files) (λ name outside. refl))
 
 pub counts_now_of : (disk : RecordedDisk) (since : ℕ) (left : FileMap) → since ≤ length disk.calls → (state : DiskState)
     → Some (state_of disk) ≡ Some state → MayLeave state left → LeftSince disk since left
@@ -63,14 +68,17 @@ counts_now_of disk since left le state told may = (
   length disk.calls,
   le,
   omega arith,
-  subst (λ now. MayLeave now left) (sym (told_state disk state told) ∙ ap (after_calls disk.files) (sym (take-length disk.calls))) may,
+  subst (λ now. MayLeave now left)
+      (sym (told_state disk state told) ∙ ap (after_calls disk.files) (sym (take-length disk.calls))) may,
 )
 
 -- what was left after so many calls, of so many
-pub last_moment : (disk : RecordedDisk) (count : ℕ) (left : FileMap) → count ≡ length disk.calls → MayLeave (state_after disk count) left
+pub last_moment : (disk : RecordedDisk) (count : ℕ) (left : FileMap) → count ≡ length disk.calls
+    → MayLeave (state_after disk count) left
     → MayLeave (state_of disk) left
 last_moment disk count left is may =
-    subst (λ now. MayLeave now left) (ap (state_after disk) is ∙ ap (after_calls disk.files) (take-length disk.calls)) may
+    subst (λ now. MayLeave now left)
+    (ap (state_after disk) is ∙ ap (after_calls disk.files) (take-length disk.calls)) may
 
 pub only_now_of : (disk : RecordedDisk) (left : FileMap) (state : DiskState) → Some (state_of disk) ≡ Some state
     → LeftSince disk (length disk.calls) left → MayLeave state left

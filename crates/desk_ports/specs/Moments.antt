@@ -12,12 +12,14 @@ pub record Elapses (before now : ℕ) (past since : ℕ → FileMap → Type 0) 
 
 -- From the moment of the first disk to that of the second, no map that a stop may have left is new but such maps. The
 -- word holds over no call, over one call after which a stop leaves such maps alone, and over calls in a row.
-pub record AddsOnly {D : Type 0} (moment : D → ℕ) (left_since : D → ℕ → FileMap → Type 0) (old new : D) (P : FileMap → Type 0) : Type 0 where
+pub record AddsOnly {D : Type 0} (moment : D → ℕ) (left_since : D → ℕ → FileMap → Type 0) (old new : D)
+    (P : FileMap → Type 0) : Type 0 where
   pub later : moment old ≤ moment new
   pub nothing_else : (t : ℕ) (left : FileMap) → t ≤ moment old → left_since new t left → left_since old t left ⊎ P left
 
 -- A stop at any moment from that of the first disk to that of the second leaves such a map alone.
-pub record LeavesOnly {D : Type 0} (moment : D → ℕ) (left_since : D → ℕ → FileMap → Type 0) (old new : D) (P : FileMap → Type 0) : Type 0 where
+pub record LeavesOnly {D : Type 0} (moment : D → ℕ) (left_since : D → ℕ → FileMap → Type 0) (old new : D)
+    (P : FileMap → Type 0) : Type 0 where
   pub each : (left : FileMap) → left_since new (moment old) left → P left
   -- for a run that began earlier
   pub adds : AddsOnly moment left_since old new P

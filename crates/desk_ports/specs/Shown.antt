@@ -1,5 +1,6 @@
 -- Bytes from the outside, as a person is shown them.
-use Rattle.std.specs.Prelude.{◌≡◌, ℕ, Bool, true, ◌&&◌, not, ◌==◌, ◌+◌, ◌/◌, ◌%◌, List, [], ◌∷◌, take, flat_map, nat_lt, nat_le, if◌then◌else◌}
+use Rattle.std.specs.Prelude.{◌≡◌, ℕ, Bool, true, ◌&&◌, not, ◌==◌, ◌+◌, ◌/◌}
+use Rattle.std.specs.Prelude.{◌%◌, List, [], ◌∷◌, take, flat_map, nat_lt, nat_le, if◌then◌else◌}
 use Rattle.std.specs.List.{list_all}
 
 -- printable ASCII, the space with it

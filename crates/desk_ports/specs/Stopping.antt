@@ -1,5 +1,6 @@
 -- What a stop leaves of a disk in memory, as a number says.
-use Rattle.std.specs.Prelude.{◌≡◌, ◌↔◌, ◌&&◌, ◌==◌, ◌/◌, ◌%◌, ℕ, Bool, true, false, if◌then◌else◌, List, [], length, take, fold, Option, Some, None, unwrap_or}
+use Rattle.std.specs.Prelude.{◌≡◌, ◌↔◌, ◌&&◌, ◌==◌, ◌/◌, ◌%◌, ℕ, Bool, true, false}
+use Rattle.std.specs.Prelude.{if◌then◌else◌, List, [], length, take, fold, Option, Some, None, unwrap_or}
 use Rattle.std.specs.List.{Contains}
 use Rattle.std.specs.Str.{bytes_eq}
 use Rattle.desk_ports.specs.FileMap.{FileMap, NamesRise, with_content, map_of}
@@ -62,10 +63,11 @@ pick_next meant picking name = record {
 abbrev pub picked_map : ℕ → (List ℕ → List ℕ) → FileMap → List (List ℕ) → FileMap
 picked_map pick meant durable names = (fold (pick_next meant) (record { digits = pick; left = durable }) names).left
 
--- These files are what a stop leaves in this state, after these calls, as the number says: the touched names, in order, take
--- its digits to the base 4, the lowest first, and each other name holds what is durable.
+-- These files are what a stop leaves in this state, after these calls, as the number says: the touched names, in order,
+-- take its digits to the base 4, the lowest first, and each other name holds what is durable.
 pub record AreLeftBy (state : DiskState) (calls : List RecordedCall) (pick : ℕ) (files : List SetFile) : Type 0 where
   pub touched : List (List ℕ)
   pub rising : NamesRise touched
   pub all : (name : List ℕ) → Contains touched name ↔ (state.touched name ≡ true)
-  pub held : (name : List ℕ) → map_of files name ≡ picked_map pick (meant_bytes calls state.durable) state.durable touched name
+  pub held : (name : List ℕ)
+      → map_of files name ≡ picked_map pick (meant_bytes calls state.durable) state.durable touched name

@@ -3,8 +3,8 @@ ghost use Rattle.std.specs.Prelude.{◌≡◌, IfOk};
 use std::alloc::{AllocError, Global};
 use std::marker::Model;
 
-/// A value in a block of memory of its own: the large part of an enum, which would be as large in each of its variants and
-/// is moved whenever the enum is handed on. Contracts see it as the value.
+/// A value in a block of memory of its own: the large part of an enum, which would be as large in each of its variants
+/// and is moved whenever the enum is handed on. Contracts see it as the value.
 #[derive(Debug, Drop)]
 pub struct Boxed<T> {
     content: Box<T>,

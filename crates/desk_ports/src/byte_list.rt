@@ -7,7 +7,8 @@ use std::marker::Model;
 /// How many bytes are made ready ahead of those that are there.
 const MOST_SPARE: usize = 65_536;
 
-/// A list of bytes that owns its memory. Contracts see it as the list. To append costs a copy and no more where there is room.
+/// A list of bytes that owns its memory. Contracts see it as the list. To append costs a copy and no more where there
+/// is room.
 #[derive(Drop)]
 pub struct Bytes {
     /// The bytes stand at the front, and behind them is room for more.
@@ -60,8 +61,8 @@ impl Bytes {
         self.count
     }
 
-    /// Appends these bytes. Where it finds no memory, the list stays as it was. Inlined, so that of bytes whose number is
-    /// known the copy is a few moves.
+    /// Appends these bytes. Where it finds no memory, the list stays as it was. Inlined, so that of bytes whose number
+    /// is known the copy is a few moves.
     #[inline(always)]
     pub fn append(&mut self, from: &[u8]) -> Result<(), AllocError>
         ensures ok { OnOk result (self.new ≡ self.old ++ from.now) }
@@ -137,8 +138,8 @@ fn write_both(place: &mut [u8], front: &[u8], back: &[u8])
     at_back.copy_from_slice(back);
 }
 
-// Makes room behind so many bytes for `more`, and for as many again as there are then, but no more than `MOST_SPARE`: what
-// is ahead of the bytes is written to.
+// Makes room behind so many bytes for `more`, and for as many again as there are then, but no more than `MOST_SPARE`:
+// what is ahead of the bytes is written to.
 #[inline(never)]
 fn make_room(room: &mut Vec<u8>, count: usize, more: usize) -> Result<(), AllocError>
     requires within { count ≤ vec_len room.old }

@@ -1,15 +1,16 @@
 ghost use Rattle.std.specs.Prelude.{◌≡◌, ◌≤◌, ℕ, List, Option, Some, None, IfOk, OnOk, OnErr};
 ghost use Rattle.desk_ports.specs.PortFault.{count_after, count_after_call};
 ghost use Rattle.desk_ports.specs.FileMap.{FileMap, NamesRise};
-ghost use Rattle.desk_ports.specs.Disk.{DiskState, IsTouchedOnly, MayLeave, WhereTold, KeepsState, Gives, Disturbs, MakesDurable, ListsNames, Reads};
+ghost use Rattle.desk_ports.specs.Disk.{DiskState, IsTouchedOnly, MayLeave, WhereTold, KeepsState};
+ghost use Rattle.desk_ports.specs.Disk.{Gives, Disturbs, MakesDurable, ListsNames, Reads};
 ghost use Rattle.desk_ports.specs.Moments.{Elapses};
 
 use crate::{Bytes, Failed, FileName, PortFault};
 
-/// A folder of files that keeps what it was asked to keep. A disk may tell its state: the map of names and bytes that is
-/// read now, the map that is durable, and the names touched since the last sync. A stop leaves any map that is as the
-/// durable one at every untouched name. A disk that tells its state also tells which maps a stop may have left at any
-/// moment since an earlier one.
+/// A folder of files that keeps what it was asked to keep. A disk may tell its state: the map of names and bytes that
+/// is read now, the map that is durable, and the names touched since the last sync. A stop leaves any map that is as
+/// the durable one at every untouched name. A disk that tells its state also tells which maps a stop may have left at
+/// any moment since an earlier one.
 pub trait Disk {
     /// How often it has failed.
     ghost faults: { Self → ℕ };
@@ -78,5 +79,6 @@ pub trait Disk {
         → WhereTold (state disk) (λ now. MayLeave now left → left_since disk t left) };
 
     /// Since this moment there is no other.
-    ghost only_now: { (disk : Self) (left : FileMap) → WhereTold (state disk) (λ now. left_since disk (moment disk) left → MayLeave now left) };
+    ghost only_now: { (disk : Self) (left : FileMap)
+        → WhereTold (state disk) (λ now. left_since disk (moment disk) left → MayLeave now left) };
 }

@@ -1,13 +1,16 @@
-ghost use Rattle.std.specs.Prelude.{◌≡◌, ℕ, List, is_some, false, true, [], ◌∷◌, ◌++◌, length, take, Some, None, IfOk, OnOk, OnErr, IsErr};
+ghost use Rattle.std.specs.Prelude.{◌≡◌, ℕ, List, is_some, false, true, [], ◌∷◌, ◌++◌};
+ghost use Rattle.std.specs.Prelude.{length, take, Some, None, IfOk, OnOk, OnErr, IsErr};
 ghost use Rattle.std.specs.Bool.{OnFalse};
 ghost use Rattle.std.specs.List.{Contains};
 ghost use Rattle.desk_ports.specs.Faults.{next_count};
 ghost use Rattle.desk_ports.specs.PortFault.{count_after, count_after_call};
-ghost use Rattle.desk_ports.specs.Disk.{WhereTold, MayLeave, KeepsState, Gives, Disturbs, MakesDurable, ListsNames, Reads};
+ghost use Rattle.desk_ports.specs.Disk.{WhereTold, MayLeave, KeepsState, Gives};
+ghost use Rattle.desk_ports.specs.Disk.{Disturbs, MakesDurable, ListsNames, Reads};
 ghost use Rattle.desk_ports.specs.Moments.{Elapses};
 ghost use Rattle.desk_ports.specs.parts.NamesHeld.{has_name};
 ghost use Rattle.desk_ports.specs.FileMap.{AreNamesOf, NamesRise, map_of};
-ghost use Rattle.desk_ports.specs.MemDisk.{next_number, with_number, with_call, with_fault, AnswersCall, AnswersChange, state_of, state_after, LeftSince};
+ghost use Rattle.desk_ports.specs.MemDisk.{next_number, with_number, with_call, with_fault, AnswersCall};
+ghost use Rattle.desk_ports.specs.MemDisk.{AnswersChange, state_of, state_after, LeftSince};
 ghost use Rattle.desk_ports.specs.Stopping.{AreLeftBy};
 ghost use Rattle.desk_ports.specs.MemDiskLaws.{touched_only_of, counts_now_of, only_now_of};
 
@@ -21,9 +24,9 @@ use std::alloc::{AllocError, Global};
 use std::collections::BTreeSet;
 use std::marker::Model;
 
-/// A disk in memory, for tests. It tells its state. It keeps a record of its calls, and fails at the listed calls. A write,
-/// a removal or a sync fails also where it finds no memory to be recorded. A write or a removal that fails leaves what is
-/// read as it was, and touches its name where it is recorded.
+/// A disk in memory, for tests. It tells its state. It keeps a record of its calls, and fails at the listed calls. A
+/// write, a removal or a sync fails also where it finds no memory to be recorded. A write or a removal that fails
+/// leaves what is read as it was, and touches its name where it is recorded.
 #[derive(Debug, Drop)]
 pub struct MemDisk {
     files: FileSet,
@@ -38,7 +41,13 @@ impl Model for MemDisk {
 
     ghost Value = { RecordedDisk };
 
-    ghost view = { λ disk. record { files = disk.files; calls = disk.calls.items; made = disk.made; fails = disk.fails; faults = disk.faults } };
+    ghost view = { λ disk. record {
+      files = disk.files;
+      calls = disk.calls.items;
+      made = disk.made;
+      fails = disk.fails;
+      faults = disk.faults;
+    } };
 }
 
 impl MemDisk {
@@ -63,11 +72,11 @@ impl MemDisk {
         &self.calls
     }
 
-    /// The disk that a stop after so many calls may leave, with all calls where there are fewer. Each touched name is absent,
-    /// empty, cut in half or whole, as the digits of `pick` to the base 4 say, the lowest first, in order of name. What is
-    /// halved or whole are the bytes that the last write of the name, done or failed, was given since the last sync that was
-    /// done, or else its durable bytes, or else none. A half is rounded down. The new disk starts with no call made, and with
-    /// none that is to fail.
+    /// The disk that a stop after so many calls may leave, with all calls where there are fewer. Each touched name is
+    /// absent, empty, cut in half or whole, as the digits of `pick` to the base 4 say, the lowest first, in order of
+    /// name. What is halved or whole are the bytes that the last write of the name, done or failed, was given since the
+    /// last sync that was done, or else its durable bytes, or else none. A half is rounded down. The new disk starts
+    /// with no call made, and with none that is to fail.
     pub fn stopped(&self, after: usize, pick: u32) -> Result<MemDisk, AllocError>
         ensures left { IfOk result
             (λ left. AreLeftBy (state_after self.now after) (take after self.now.calls) pick left.files) }

@@ -23,7 +23,8 @@ impl Model for MemSink {
 
     ghost Value = { Stream };
 
-    ghost view = { λ sink. record { bytes = sink.bytes; calls = sink.calls; fails = sink.fails; faults = sink.faults } };
+    ghost view = { λ sink.
+        record { bytes = sink.bytes; calls = sink.calls; fails = sink.fails; faults = sink.faults } };
 }
 
 impl MemSink {

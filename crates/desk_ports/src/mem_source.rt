@@ -25,7 +25,12 @@ impl Model for MemSource {
 
     ghost Value = { Stream };
 
-    ghost view = { λ source. record { bytes = drop source.given source.bytes; calls = source.calls; fails = source.fails; faults = source.faults } };
+    ghost view = { λ source. record {
+      bytes = drop source.given source.bytes;
+      calls = source.calls;
+      fails = source.fails;
+      faults = source.faults;
+    } };
 
     ghost invariant = { λ source. source.given ≤ length source.bytes };
 }

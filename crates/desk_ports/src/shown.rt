@@ -4,8 +4,8 @@ ghost use Rattle.desk_ports.specs.Shown as word;
 
 use std::alloc::{AllocError, Global};
 
-/// The bytes as a text that no terminal acts on. A byte that is no printable ASCII, and a backslash, stands as `\x` with
-/// two digits of hexadecimal, and of all that is shown the first `most` bytes are kept.
+/// The bytes as a text that no terminal acts on. A byte that is no printable ASCII, and a backslash, stands as `\x`
+/// with two digits of hexadecimal, and of all that is shown the first `most` bytes are kept.
 pub fn shown_bytes(alloc: Global, bytes: &[u8], most: usize) -> Result<String, AllocError>
     ensures shown { IfOk result (λ text. string_bytes text ≡ word.shown_bytes most bytes.now) }
     ensures printable { IfOk result (λ text. word.IsPrintable (string_bytes text)) }

@@ -18,8 +18,8 @@ pub trait Source {
     ghost left: { Self → Option (List ℕ) };
 
     /// Puts the next bytes at the front of the slice, at most as many as it has room for, and says how many. Into a
-    /// slice with room it gives 0 bytes only at the end of the input. A call that fails takes nothing from the source, and
-    /// raises its count of faults by one; any other call leaves that count.
+    /// slice with room it gives 0 bytes only at the end of the input. A call that fails takes nothing from the source,
+    /// and raises its count of faults by one; any other call leaves that count.
     fn read(&mut self, into: &mut [u8]) -> Result<usize, Failed>
         ensures within { IfOk result (λ count. count ≤ length into.old) }
         ensures given { IfOk result (λ count. Took (left self.old) (take count into.new) (left self.new)) }
@@ -47,16 +47,16 @@ pub trait Sink {
         ensures count { CountsFailure result (faults self.old) (faults self.new) }
         ensures bound { NeverFalls (faults self.old) (faults self.new) };
 
-    /// Takes a line for the person who runs the program, which is no part of what the sink holds. It may be lost: neither
-    /// the bytes taken nor the count of faults changes.
+    /// Takes a line for the person who runs the program, which is no part of what the sink holds. It may be lost:
+    /// neither the bytes taken nor the count of faults changes.
     fn note(&mut self, _note: &str)
         ensures taken { taken self.new ≡ taken self.old }
         ensures count { faults self.new ≡ faults self.old }
     {}
 }
 
-/// Has the sink take all bytes, in as many calls as it needs. It fails at the first call of the sink that does; the sink
-/// has then taken some bytes from the front of them, or none, but not all.
+/// Has the sink take all bytes, in as many calls as it needs. It fails at the first call of the sink that does; the
+/// sink has then taken some bytes from the front of them, or none, but not all.
 pub fn write_all<K: Sink>(sink: &mut K, bytes: &[u8]) -> Result<(), Failed>
     ensures ok { OnOk result (Appended (K.taken sink.old) bytes.now (K.taken sink.new)) }
     ensures err { OnErr result (AppendedPart (K.taken sink.old) bytes.now (K.taken sink.new)) }

@@ -57,12 +57,16 @@ abbrev pub heading : List ℕ → ℕ → Heading
 heading name kind = record { name = name; fallback = record { kind = kind; metadata = [] } }
 
 abbrev pub headings : List Heading
-headings = heading main deny ∷ heading manifests deny ∷ heading admin allow ∷ map (λ name. heading name allow) type_buckets
+headings = heading main deny ∷ heading manifests deny ∷ heading admin allow
+    ∷ map (λ name. heading name allow) type_buckets
 
 -- a policy that sends the questions of these users to a bucket
 abbrev pub link : Field → List ℕ → Policy
 link user target =
-    record { key = record { client = Any; user = user; privilege = Any }; result = record { kind = bucket; metadata = target } }
+    record {
+      key = record { client = Any; user = user; privilege = Any };
+      result = record { kind = bucket; metadata = target };
+    }
 
 -- the policy that sends all questions of a bucket to another one
 abbrev pub all_to : List ℕ → List ℕ → Placed

@@ -3,12 +3,15 @@ use Rattle.std.specs.Prelude.{ℕ, ◌+◌, List, [], length}
 use Rattle.bucket_store.specs.Database.{Database}
 use Rattle.bucket_store.specs.Change.{listed}
 use Rattle.bucket_store.specs.Refusal.{Request, set_bucket, remove_bucket, set_policies, erase}
-use Rattle.app_registry.specs.Registry.{RegistryLists, with_user, without_user, with_install, without_install, with_kind}
+use Rattle.app_registry.specs.Registry.{RegistryLists, with_user, without_user}
+use Rattle.app_registry.specs.Registry.{with_install, without_install, with_kind}
 use Rattle.rule_templates.specs.declared.lines.TemplateLine.{TemplateLine}
 use Rattle.desk_state.specs.DeskState.{DeskState}
 use Rattle.desk_state.specs.Layout.{laid_out, settled}
 use Rattle.desk_state.specs.declared.commands.Command.{Command}
-use Rattle.desk_state.specs.declared.commands.Command.TheVariants.{SetBucket, RemoveBucket, SetPolicies, Erase, Layout, SetTemplate, UserSet, UserRemove, Install, Uninstall, Convert}
+use Rattle.desk_state.specs.declared.commands.Command.TheVariants.{SetBucket, RemoveBucket, SetPolicies, Erase, Layout}
+use Rattle.desk_state.specs.declared.commands.Command.TheVariants.{SetTemplate, UserSet, UserRemove, Install, Uninstall}
+use Rattle.desk_state.specs.declared.commands.Command.TheVariants.{Convert}
 
 -- a request that names no bucket and leads to this database
 abbrev pub leads_to : Database → Request

@@ -1,5 +1,6 @@
 -- Why a command is refused: the first rule that it breaks, in one order for all commands.
-use Rattle.std.specs.Prelude.{◌≡◌, ℕ, Bool, true, false, not, ◌&&◌, ◌||◌, ◌==◌, if◌then◌else◌, List, [], ◌∷◌, map, find, Option, Some, None}
+use Rattle.std.specs.Prelude.{◌≡◌, ℕ, Bool, true, false, not, ◌&&◌, ◌||◌, ◌==◌}
+use Rattle.std.specs.Prelude.{if◌then◌else◌, List, [], ◌∷◌, map, find, Option, Some, None}
 use Rattle.std.specs.Option.{option_map}
 use Rattle.cynara_keys.specs.declared.limits.Counted.TheVariants.{Commits}
 use Rattle.bucket_store.specs.Refusal as store
@@ -15,10 +16,14 @@ use Rattle.desk_state.specs.DeskState.{DeskState}
 use Rattle.desk_state.specs.Layout.{is_built_in, is_managed, has_layout}
 use Rattle.desk_state.specs.Next.{request}
 use Rattle.desk_state.specs.declared.commands.Command.{Command}
-use Rattle.desk_state.specs.declared.commands.Command.TheVariants.{SetBucket, RemoveBucket, SetPolicies, Erase, Layout, UserSet, UserRemove, Install, Uninstall, Convert}
+use Rattle.desk_state.specs.declared.commands.Command.TheVariants.{SetBucket, RemoveBucket, SetPolicies, Erase, Layout}
+use Rattle.desk_state.specs.declared.commands.Command.TheVariants.{UserSet, UserRemove, Install, Uninstall, Convert}
 use Rattle.desk_state.specs.Limits.{last_commit}
 use Rattle.desk_state.specs.declared.refusals.Refusal.{Refusal}
-use Rattle.desk_state.specs.declared.refusals.Refusal.TheVariants.{Reserved, LayoutThere, NoLayout, NoBucket, RootBucket, BadKind, UnknownUser, OtherPackage, OtherAuthor, OtherHybrid, NotInstalled, Limit, Cycle, Memory}
+use Rattle.desk_state.specs.declared.refusals.Refusal.TheVariants.{Reserved, LayoutThere, NoLayout, NoBucket}
+use Rattle.desk_state.specs.declared.refusals.Refusal.TheVariants.{RootBucket, BadKind, UnknownUser, OtherPackage}
+use Rattle.desk_state.specs.declared.refusals.Refusal.TheVariants.{OtherAuthor, OtherHybrid, NotInstalled, Limit, Cycle}
+use Rattle.desk_state.specs.declared.refusals.Refusal.TheVariants.{Memory}
 
 -- ---- rules of the layout
 
@@ -33,7 +38,8 @@ changed_bucket (Delete name key) = name
 abbrev pub reserved : Bool → Command → Option Refusal
 reserved laid_out (SetBucket name fallback) = reserves (is_managed name || (is_built_in name && not laid_out)) name
 reserved laid_out (RemoveBucket name) = reserves (is_built_in name) name
-reserved laid_out (SetPolicies changes) = option_map (λ name. Reserved name) (find is_managed (map changed_bucket changes))
+reserved laid_out (SetPolicies changes) =
+    option_map (λ name. Reserved name) (find is_managed (map changed_bucket changes))
 reserved laid_out (Erase name filter) = reserves (is_managed name) name
 reserved laid_out command = None
 

@@ -8,10 +8,10 @@ ghost use Rattle.desk_state.specs.parts.Stepping.{Answers, IsAllowed};
 use crate::{Applied, Command, Desk, Refusal};
 
 impl Desk {
-    /// What the command gives: the next state, with the next commit number, also where nothing else changes. Refuses, as
-    /// `Refusal` says, by the first rule that the command breaks, and this state stays as it is. A command costs what it
-    /// changes: the lists of the buckets that it is about, and for users and installs those of `MAIN` and `MANIFESTS` and
-    /// a copy of the registry.
+    /// What the command gives: the next state, with the next commit number, also where nothing else changes. Refuses,
+    /// as `Refusal` says, by the first rule that the command breaks, and this state stays as it is. A command costs
+    /// what it changes: the lists of the buckets that it is about, and for users and installs those of `MAIN` and
+    /// `MANIFESTS` and a copy of the registry.
     pub fn apply(&self, command: &Command) -> Result<Applied, Refusal>
         ensures next { IfOk result (λ applied. applied.desk ≡ next self.now command.now) }
         ensures erased { IfOk result (λ applied. applied.erased ≡ erased_by self.now command.now) }

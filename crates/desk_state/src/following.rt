@@ -129,7 +129,8 @@ fn take_of_user(
     uid: u32,
 ) -> Result<(), AllocError>
     ensures { OnOk result (changes.new.items
-        ≡ changes.old.items ++ following.grant_changes false (λ install. is_for_user uid install.scope) (install.now ∷ [])) }
+        ≡ changes.old.items ++ following.grant_changes false (λ install. is_for_user uid install.scope)
+        (install.now ∷ [])) }
 {
     if !is_for_user(install.scope, uid) {
         return Ok(());
@@ -193,7 +194,8 @@ fn grant_change(
     user: &Field,
     privilege: &Name,
 ) -> Result<Change, AllocError>
-    ensures { IfOk result (λ change. change ≡ following.grant_change allowed (grant client.now user.now privilege.now)) }
+    ensures { IfOk result
+        (λ change. change ≡ following.grant_change allowed (grant client.now user.now privilege.now)) }
 {
     let bucket = bucket_name(alloc, MANIFESTS)?;
     let key = grant(alloc, client, user, privilege)?;

@@ -3,7 +3,8 @@ use cynara_keys::{BucketName, Counted, Kind};
 use std::alloc::AllocError;
 use thiserror::Error;
 
-/// Why a command is refused: the first of these that stands against it, in this order. A refused command changes nothing.
+/// Why a command is refused: the first of these that stands against it, in this order. A refused command changes
+/// nothing.
 #[derive(Debug, Drop, Error)]
 pub enum Refusal {
     /// The bucket is kept by the layout, or would have the name of one that the layout makes.

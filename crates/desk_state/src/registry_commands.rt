@@ -148,8 +148,8 @@ fn number_fits(uid: u32)
     let _ = uid;
 }
 
-// Names of packages have no colon, so that no label of an install is one of another package. The loop changes nothing: it
-// says of each name what is known of one that is passed.
+// Names of packages have no colon, so that no label of an install is one of another package. The loop changes nothing:
+// it says of each name what is known of one that is passed.
 fn idents_fit(installs: &[Install])
     ensures { list.AllByRecursion (λ (install : Installed). ident_fault install.package ≡ None) installs.now }
 {

@@ -1,6 +1,7 @@
 //! The commands on the database, and that which sets the template.
 
-ghost use Rattle.desk_state.specs.declared.commands.Command.TheVariants.{Erase, RemoveBucket, SetBucket, SetPolicies, SetTemplate};
+ghost use Rattle.desk_state.specs.declared.commands.Command.TheVariants.{Erase, RemoveBucket, SetBucket};
+ghost use Rattle.desk_state.specs.declared.commands.Command.TheVariants.{SetPolicies, SetTemplate};
 ghost use Rattle.desk_state.specs.parts.Stepping.{Answers, IsAllowed, IsArranged, Steps, moved};
 
 use crate::{Applied, Desk, Refusal};

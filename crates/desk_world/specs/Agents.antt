@@ -1,6 +1,7 @@
 -- What agents do: register for a kind, be asked, answer and leave; and questions that are withdrawn. The log keeps each
 -- question that was put to an agent.
-use Rattle.std.specs.Prelude.{ℕ, Bool, true, false, not, ◌&&◌, ◌||◌, ◌==◌, nat_le, nat_lt, if◌then◌else◌, List, [], ◌∷◌, ◌++◌, map, filter, Option, Some, None, slice_get}
+use Rattle.std.specs.Prelude.{ℕ, Bool, true, false, not, ◌&&◌, ◌||◌, ◌==◌, nat_le, nat_lt, if◌then◌else◌}
+use Rattle.std.specs.Prelude.{List, [], ◌∷◌, ◌++◌, map, filter, Option, Some, None, slice_get}
 use Rattle.std.specs.List.{list_any, count_by}
 use Rattle.cynara_keys.specs.PolicyResult.{is_agent}
 use Rattle.cynara_keys.specs.Key.{Question}
@@ -46,9 +47,9 @@ is_waiting (Waiting commit kind number) = true
 abbrev pub waiting_in : ℕ → List Link → ℕ
 waiting_in run links = count_by (λ (link : Link). link.run == run && is_waiting link.reading) links
 
--- Where so many questions wait and so many numbers were given, the table takes a question, or refuses it at this limit: of
--- questions that wait, or of numbers in a run. The limit of those that wait may bite or not, since the table counts a
--- question until its worker takes the answer.
+-- Where so many questions wait and so many numbers were given, the table takes a question, or refuses it at this limit:
+-- of questions that wait, or of numbers in a run. The limit of those that wait may bite or not, since the table counts
+-- a question until its worker takes the answer.
 abbrev pub may_put : Option ℕ → ℕ → ℕ → Bool
 may_put None waiting given = nat_lt given most_entries
 may_put (Some most) waiting given =
@@ -57,8 +58,8 @@ may_put (Some most) waiting given =
 abbrev pub fits : Option ℕ → World → Bool
 fits full world = may_put full (waiting_in world.run world.links) (count_of world.run world.entries)
 
--- What a link has read once its question was put: that no agent is there, or that the table refused it at a limit, or that
--- an entry with this number is waited for.
+-- What a link has read once its question was put: that no agent is there, or that the table refused it at a limit, or
+-- that an entry with this number is waited for.
 abbrev pub put_as : Bool → Option ℕ → ℕ → ℕ → Kind → Reading
 put_as false full number commit kind = Ready (NoAgent commit kind)
 put_as true (Some most) number commit kind = Ready (AgentFull commit kind most)
@@ -84,12 +85,16 @@ put_down link found ask question commit kind world =
 abbrev pub put_with : ℕ → Link → ℕ → Question → Option ℕ → ℕ → Kind → World → World
 put_with link found ask question None commit kind world = put_down link found ask question commit kind world
 put_with link found ask question (Some most) commit kind world =
-    with_link link (record found { reading = put_as true (Some most) (count_of world.run world.entries) commit kind }) world
+    with_link link (record found {
+      reading = put_as true (Some most) (count_of world.run world.entries) commit kind;
+    }) world
 
 abbrev pub put_to : ℕ → Link → ℕ → Question → Option ℕ → ℕ → Kind → World → World
 put_to link found ask question full commit kind world =
     if has_agent kind.0 world then put_with link found ask question full commit kind world
-    else with_link link (record found { reading = put_as false full (count_of world.run world.entries) commit kind }) world
+    else with_link link (record found {
+      reading = put_as false full (count_of world.run world.entries) commit kind;
+    }) world
 
 abbrev pub put_due : ℕ → Link → ℕ → Question → Option ℕ → Reading → World → Option World
 put_due link found ask question full (Due commit kind metadata) world =

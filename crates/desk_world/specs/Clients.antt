@@ -1,5 +1,6 @@
 -- What clients do: dial, ask, answer from the cache, send, receive, find the link closed, and be told of a commit.
-use Rattle.std.specs.Prelude.{ℕ, Bool, true, not, ◌&&◌, ◌==◌, nat_le, if◌then◌else◌, List, [], ◌∷◌, ◌++◌, length, max, Option, Some, None, is_none, slice_get}
+use Rattle.std.specs.Prelude.{ℕ, Bool, true, not, ◌&&◌, ◌==◌, nat_le, if◌then◌else◌, List, []}
+use Rattle.std.specs.Prelude.{◌∷◌, ◌++◌, length, max, Option, Some, None, is_none, slice_get}
 use Rattle.cynara_keys.specs.Text.{same_text}
 use Rattle.cynara_keys.specs.Key.{Question}
 use Rattle.desk_world.specs.World.{World, with_client, with_link, client_of}
@@ -10,7 +11,8 @@ use Rattle.desk_world.specs.declared.links.Transit.{Transit}
 use Rattle.desk_world.specs.declared.links.Reading.TheVariants.{Nothing}
 use Rattle.desk_world.specs.declared.replies.Given.{Given}
 use Rattle.desk_world.specs.declared.replies.Reply.{Reply}
-use Rattle.desk_world.specs.declared.replies.Reply.TheVariants.{Judged, FromAgent, NotResolved, NoAgent, AgentGone, AgentFull}
+use Rattle.desk_world.specs.declared.replies.Reply.TheVariants.{Judged, FromAgent, NotResolved}
+use Rattle.desk_world.specs.declared.replies.Reply.TheVariants.{NoAgent, AgentGone, AgentFull}
 
 -- the world after an event that is enabled where the test holds
 abbrev pub when : Bool → World → Option World

@@ -1,5 +1,6 @@
 -- What the admin worker and the disk do: store, publish, hang up, acknowledge, in this order; and stops.
-use Rattle.std.specs.Prelude.{ℕ, Bool, true, false, not, ◌&&◌, ◌==◌, nat_lt, ◌+◌, if◌then◌else◌, [], map, Option, Some, None, is_none}
+use Rattle.std.specs.Prelude.{ℕ, Bool, true, false, not, ◌&&◌, ◌==◌, nat_lt}
+use Rattle.std.specs.Prelude.{◌+◌, if◌then◌else◌, [], map, Option, Some, None, is_none}
 use Rattle.desk_state.specs.DeskState.{DeskState}
 use Rattle.desk_state.specs.Next.{next}
 use Rattle.desk_state.specs.Rules.{fault}

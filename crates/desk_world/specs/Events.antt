@@ -6,7 +6,10 @@ use Rattle.desk_world.specs.Links.{enter, read, write, lose}
 use Rattle.desk_world.specs.Commits.{stored, undecided, decide, publish, hang, acknowledge, stop}
 use Rattle.desk_world.specs.Agents.{join, put, answer, withdraw, leave}
 use Rattle.desk_world.specs.declared.events.Event.{Event}
-use Rattle.desk_world.specs.declared.events.Event.TheVariants.{Connect, Ask, Hit, Send, Read, Write, Deliver, Notice, Lose, Stored, Undecided, Decide, Publish, Hang, Acknowledge, AgentJoin, AgentPut, AgentReply, AgentWithdraw, AgentLeave, Stop, Tell}
+use Rattle.desk_world.specs.declared.events.Event.TheVariants.{Connect, Ask, Hit, Send, Read, Write, Deliver, Notice}
+use Rattle.desk_world.specs.declared.events.Event.TheVariants.{Lose, Stored, Undecided, Decide, Publish, Hang}
+use Rattle.desk_world.specs.declared.events.Event.TheVariants.{Acknowledge, AgentJoin, AgentPut, AgentReply}
+use Rattle.desk_world.specs.declared.events.Event.TheVariants.{AgentWithdraw, AgentLeave, Stop, Tell}
 use Rattle.desk_world.specs.declared.events.Half.{Half}
 use Rattle.desk_world.specs.declared.events.Half.TheVariants.{Dial, Enter}
 use Rattle.desk_world.specs.declared.refusals.WorldRefusal.{WorldRefusal}

@@ -8,4 +8,5 @@ use Rattle.desk_world.specs.declared.events.Event.{Event}
 
 -- from any world whose numbers are in order and whose states are a chain, whatever its links, clients and asks
 abbrev pub EachGrows : Type 0
-EachGrows = (before next : World) (event : Event) → HasHistory before → after event before ≡ Some next → Grows before next
+EachGrows = (before next : World) (event : Event) → HasHistory before → after event before ≡ Some next
+    → Grows before next

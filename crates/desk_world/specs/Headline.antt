@@ -12,7 +12,8 @@ use Rattle.desk_world.specs.declared.agent_entries.EntryState.TheVariants.{Answe
 use Rattle.desk_world.specs.declared.events.Event.{Event}
 use Rattle.desk_world.specs.declared.replies.Given.{Given}
 use Rattle.desk_world.specs.declared.replies.Reply.{Reply}
-use Rattle.desk_world.specs.declared.replies.Reply.TheVariants.{Judged, FromAgent, NotResolved, NoAgent, AgentGone, AgentFull}
+use Rattle.desk_world.specs.declared.replies.Reply.TheVariants.{Judged, FromAgent, NotResolved}
+use Rattle.desk_world.specs.declared.replies.Reply.TheVariants.{NoAgent, AgentGone, AgentFull}
 
 -- the verdict that a reply gives, if it gives one: the evaluation at the committed state, or the agent's own reply to
 -- the question that was put for this ask
@@ -38,9 +39,11 @@ pub record IsVerdict (world : World) (oldest : ℕ) (question : Question) (given
 -- service, is no older than what was acknowledged when it was asked, nor than what the client had been told.
 abbrev pub Freshness : Type 0
 Freshness =
-    (desk : DeskState) (earlier later : List Event) (client : ℕ) (question : Question) (simple : Bool) (before after : World)
+    (desk : DeskState) (earlier later : List Event) (client : ℕ) (question : Question) (simple : Bool)
+    (before after : World)
     → run (fresh desk) earlier ≡ Ok before → run (asked client question simple before) later ≡ Ok after
     → All (λ (given : Given).
     given.ask ≡ length before.asks
-    → IsVerdict after before.acknowledged question given × IsVerdict after (client_of before client).told question given)
+    → IsVerdict after before.acknowledged question given
+    × IsVerdict after (client_of before client).told question given)
     after.given

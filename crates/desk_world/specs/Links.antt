@@ -1,6 +1,7 @@
 -- What the worker of a link does: enter it in the roll, read the published policies, send the reply; and how a link
 -- closes.
-use Rattle.std.specs.Prelude.{ℕ, Bool, true, false, ◌&&◌, ◌==◌, nat_le, List, Option, Some, None, is_some, is_none, slice_get}
+use Rattle.std.specs.Prelude.{ℕ, Bool, true, false, ◌&&◌, ◌==◌, nat_le}
+use Rattle.std.specs.Prelude.{List, Option, Some, None, is_some, is_none, slice_get}
 use Rattle.cynara_keys.specs.PolicyResult.{is_agent}
 use Rattle.bucket_eval.specs.Evaluation.{Outcome}
 use Rattle.bucket_eval.specs.Found.{answer_of}
@@ -46,8 +47,8 @@ read_as true commit false outcome = Due commit (record { 0 = outcome.result.kind
 abbrev pub reading_of : ℕ → Bool → Outcome → Reading
 reading_of commit simple outcome = read_as (is_agent outcome.result.kind) commit simple outcome
 
--- Where one commit was seen last, at first that of the entry, and another one is published, these may be read: those from the
--- one to the other.
+-- Where one commit was seen last, at first that of the entry, and another one is published, these may be read: those
+-- from the one to the other.
 abbrev pub may_read : ℕ → ℕ → ℕ → Bool
 may_read seen published commit = nat_le seen commit && nat_le commit published
 

@@ -14,11 +14,13 @@ use Rattle.desk_world.specs.declared.replies.Given.{Given}
 abbrev pub TellsNot : ℕ → Event → Type 0
 TellsNot client event = (commit : ℕ) → event ≡ Tell client commit → ⊥
 
--- A client asks and is told of nothing since: whatever else happens, a reply to this ask is no older than what the client
--- has been told by then. A telling while the ask is open can overtake a reply that is on its way, so it is left out.
+-- A client asks and is told of nothing since: whatever else happens, a reply to this ask is no older than what the
+-- client has been told by then. A telling while the ask is open can overtake a reply that is on its way, so it is left
+-- out.
 abbrev pub NeverOlder : Type 0
 NeverOlder =
-    (desk : DeskState) (earlier later : List Event) (client : ℕ) (question : Question) (simple : Bool) (before after : World)
+    (desk : DeskState) (earlier later : List Event) (client : ℕ) (question : Question) (simple : Bool)
+    (before after : World)
     → run (fresh desk) earlier ≡ Ok before → run (asked client question simple before) later ≡ Ok after
     → All (TellsNot client) later
     → All (λ (given : Given).

@@ -10,7 +10,8 @@ use Rattle.desk_world.specs.declared.agent_entries.EntryState.TheVariants.{Gone,
 use Rattle.desk_world.specs.declared.links.Asked.{Asked}
 use Rattle.desk_world.specs.declared.replies.Given.{Given}
 use Rattle.desk_world.specs.declared.replies.Reply.{Reply}
-use Rattle.desk_world.specs.declared.replies.Reply.TheVariants.{Judged, FromAgent, NotResolved, NoAgent, AgentGone, AgentFull}
+use Rattle.desk_world.specs.declared.replies.Reply.TheVariants.{Judged, FromAgent, NotResolved}
+use Rattle.desk_world.specs.declared.replies.Reply.TheVariants.{NoAgent, AgentGone, AgentFull}
 
 -- the commit of the policies that a reply was made under
 abbrev pub commit_of : Reply → ℕ

@@ -1,7 +1,9 @@
 // What agents do.
-ghost use Rattle.std.specs.Prelude.{◌≡◌, ◌<◌, ◌^◌, ◌&&◌, ◌==◌, [], ◌∷◌, ◌++◌, not, filter, map, length, None, IfOk, IsTrue};
+ghost use Rattle.std.specs.Prelude.{◌≡◌, ◌<◌, ◌^◌, ◌&&◌, ◌==◌, [], ◌∷◌, ◌++◌};
+ghost use Rattle.std.specs.Prelude.{not, filter, map, length, None, IfOk, IsTrue};
 ghost use Rattle.std.specs.List.{list_any, count_by};
-ghost use Rattle.desk_world.specs.Agents.{join, put, put_to, put_with, put_down, answer, leave, fits, is_open, is_waiting, count_of, waiting_in};
+ghost use Rattle.desk_world.specs.Agents.{join, put, put_to, put_with, put_down, answer};
+ghost use Rattle.desk_world.specs.Agents.{leave, fits, is_open, is_waiting, count_of, waiting_in};
 ghost use Rattle.desk_world.specs.Agents.{ended, withdraw, gone_if_open, once_stopped, once_left};
 ghost use Rattle.desk_world.specs.parts.Parts.{world_of, Becomes};
 

@@ -77,7 +77,12 @@ impl Client {
 
     /// With this told number, if it is the greater one.
     pub fn told(mut self, commit: u64) -> Client
-        ensures { result ≡ record { told = max self.told commit; link = self.link; log = self.log; asking = self.asking } }
+        ensures { result ≡ record {
+          told = max self.told commit;
+          link = self.link;
+          log = self.log;
+          asking = self.asking;
+        } }
     {
         self.told = self.told.max(commit);
         self

@@ -75,7 +75,8 @@ pub fn stored(world: &mut Parts, command: &Command) -> Result<bool, AllocError>
 
 /// It is not known whether the command's state is stored. Says whether that event is enabled.
 pub fn undecided(world: &mut Parts, command: &Command) -> Result<bool, AllocError>
-    ensures { IfOk result (λ enabled. Becomes (undecided command.now (world_of world.old)) enabled (world_of world.new)) }
+    ensures { IfOk result
+        (λ enabled. Becomes (undecided command.now (world_of world.old)) enabled (world_of world.new)) }
 {
     let Some(state) = proposed(world, command)? else {
         return Ok(false);

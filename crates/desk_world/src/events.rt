@@ -78,8 +78,8 @@ pub enum Event {
         number: u32,
         allowed: bool,
     },
-    /// The worker of the link finds it closed, and takes back the question that waits for an agent's answer: the check has
-    /// no reply.
+    /// The worker of the link finds it closed, and takes back the question that waits for an agent's answer: the check
+    /// has no reply.
     AgentWithdraw {
         link: u32,
     },

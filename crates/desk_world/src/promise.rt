@@ -24,14 +24,15 @@ pub fn never_older()
     ensures { NeverOlder }
 {}
 
-/// No event takes anything back: histories, asks and replies only grow, numbers do not fall, a closed link stays closed.
-/// That holds from every world whose numbers are in order and whose states are a chain. Calling it does nothing.
+/// No event takes anything back: histories, asks and replies only grow, numbers do not fall, a closed link stays
+/// closed. That holds from every world whose numbers are in order and whose states are a chain. Calling it does
+/// nothing.
 pub fn each_grows()
     ensures { EachGrows }
 {}
 
-/// A question that was withdrawn has no reply on the connection that it was asked on, whatever happens afterwards, and no
-/// answer of an agent is to it. Calling it does nothing.
+/// A question that was withdrawn has no reply on the connection that it was asked on, whatever happens afterwards, and
+/// no answer of an agent is to it. Calling it does nothing.
 pub fn withdrawn_is_unanswered()
     ensures { Unanswered }
 {}

@@ -1,9 +1,9 @@
 -- Pieces that are fed one after the other.
 use Rattle.std.proofs.Common.{◌≡◌, ◌∙◌, ℕ, List, [], ◌∷◌, ◌++◌, ◌⊎◌, Option, Some, None, Result, Ok, Err, inl, inr, refl, sym, ap, subst, append_assoc, append-nil}
-use Rattle.wire_messages.specs.Stream.{Feeding, Fed, Failed, Hears, BeginsWrong, IsOpen, unfed, first_of, Whole, Partial}
-use Rattle.wire_messages.specs.declared.messages.Framed.{Framed}
-use Rattle.wire_messages.specs.declared.operations.Heard.{Heard}
-use Rattle.wire_messages.specs.declared.refusals.WireRefusal.{WireRefusal}
+use Rattle.wire_reading.specs.Stream.{Feeding, Fed, Failed, Hears, BeginsWrong, IsOpen, unfed, first_of, Whole, Partial}
+use Rattle.wire_fields.specs.declared.messages.Framed.{Framed}
+use Rattle.wire_fields.specs.declared.operations.Heard.{Heard}
+use Rattle.wire_fields.specs.declared.refusals.WireRefusal.{WireRefusal}
 use Rattle.door_frames.specs.Hearing.{HasHeard, IsSound, IsRefused, HearsMore, HandsOut}
 
 -- what is heard of the rest comes behind what was heard before

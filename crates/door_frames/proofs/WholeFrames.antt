@@ -1,13 +1,13 @@
 -- Bytes that are whole frames, and what a link carried of them: what the laws of the doors on connections stand on.
 use Rattle.std.proofs.Common.{◌≡◌, ◌∙◌, ℕ, List, [], ◌++◌, Option, Some, sym, subst, append-nil, arith}
 use Rattle.link_ports.specs.Traffic.{Traffic}
-use Rattle.wire_messages.specs.Stream.{Hears, BeginsWrong, IsOpen, first_of, Front}
-use Rattle.wire_messages.specs.declared.messages.Framed.{Framed}
-use Rattle.wire_messages.specs.declared.operations.Heard.{Heard}
-use Rattle.wire_messages.specs.declared.refusals.WireRefusal.{WireRefusal}
-use Rattle.wire_messages.specs.declared.refusals.WireRefusal.TheVariants.{TooShort, TooLong, BadOperation, BadField, Trailing}
-use Rattle.wire_messages.specs.declared.refusals.WireRefusal.TheVariants.{Memory as NoMemory}
-use Rattle.wire_messages.proofs.Settling.{short_open}
+use Rattle.wire_reading.specs.Stream.{Hears, BeginsWrong, IsOpen, first_of, Front}
+use Rattle.wire_fields.specs.declared.messages.Framed.{Framed}
+use Rattle.wire_fields.specs.declared.operations.Heard.{Heard}
+use Rattle.wire_fields.specs.declared.refusals.WireRefusal.{WireRefusal}
+use Rattle.wire_fields.specs.declared.refusals.WireRefusal.TheVariants.{TooShort, TooLong, BadOperation, BadField, Trailing}
+use Rattle.wire_fields.specs.declared.refusals.WireRefusal.TheVariants.{Memory as NoMemory}
+use Rattle.wire_reading.proofs.Settling.{short_open}
 use Rattle.wire_messages.proofs.Refusing.{refused_to_its_end}
 use Rattle.door_frames.specs.Carried.{Carried}
 use Rattle.door_frames.specs.Ending.{IsOfBytes}

@@ -1,8 +1,8 @@
 -- The frames that were heard in the bytes that a connection received, and what is behind them.
 use Rattle.std.specs.Prelude.{◌≡◌, ℕ, List, [], ◌∷◌, ◌++◌, Option, Some, None}
-use Rattle.wire_messages.specs.Stream.{Feeding, Hears, BeginsWrong, IsOpen}
-use Rattle.wire_messages.specs.declared.messages.Framed.{Framed}
-use Rattle.wire_messages.specs.declared.refusals.WireRefusal.{WireRefusal}
+use Rattle.wire_reading.specs.Stream.{Feeding, Hears, BeginsWrong, IsOpen}
+use Rattle.wire_fields.specs.declared.messages.Framed.{Framed}
+use Rattle.wire_fields.specs.declared.refusals.WireRefusal.{WireRefusal}
 
 -- A feeder that was fed these bytes, of which these frames were taken: the frames that wait come behind them, and what is
 -- behind those is less than a frame, or wrong where the feeder has failed.

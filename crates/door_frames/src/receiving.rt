@@ -1,5 +1,5 @@
 ghost use Rattle.std.specs.Prelude.{◌≡◌, ◌<◌, ◌≤◌, ◌++◌, ℕ, List, [], length, take, None, IfOk, IfErr, OnOk, OnErr};
-ghost use Rattle.wire_messages.specs.Hearing.{IsHeard};
+ghost use Rattle.wire_reading.specs.Hearing.{IsHeard};
 ghost use Rattle.door_frames.specs.Carried.{Carried};
 ghost use Rattle.door_frames.specs.Hearing.{IsSound, IsRefused, HearsMore, HandsOut};
 ghost use Rattle.door_frames.specs.Ending.{EndsReading, EndsInput, ended_by};

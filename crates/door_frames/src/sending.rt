@@ -1,6 +1,6 @@
 ghost use Rattle.std.specs.Prelude.{◌≡◌, [], OnOk, OnErr, MatchResult};
 ghost use Rattle.desk_ports.specs.Faults.{next_count};
-ghost use Rattle.wire_messages.specs.Frame.{spelling, with_sequence};
+ghost use Rattle.wire_reading.specs.Frame.{spelling, with_sequence};
 ghost use Rattle.door_frames.specs.Carried.{Carried};
 ghost use Rattle.door_frames.specs.Ending.{EndsSending};
 

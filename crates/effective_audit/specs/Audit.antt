@@ -1,5 +1,6 @@
 -- What the applications of a user may do at all.
-use Rattle.std.specs.Prelude.{◌≡◌, ◌*◌, ◌==◌, nat_lt, true, ℕ, Bool, List, length, map, min, Option, Some, None, if◌then◌else◌}
+use Rattle.std.specs.Prelude.{◌≡◌, ◌*◌, ◌==◌, nat_lt, true, ℕ, Bool, List}
+use Rattle.std.specs.Prelude.{length, map, min, Option, Some, None, if◌then◌else◌}
 use Rattle.std.specs.List.{filter, flat_map}
 use Rattle.cynara_keys.specs.Key.{Question}
 use Rattle.cynara_keys.specs.PolicyResult.{allow}
@@ -38,7 +39,8 @@ told product = min product 18446744073709551615
 
 abbrev pub fault : List (List ℕ) → List (List ℕ) → Option AuditRefusal
 fault clients privileges =
-    if nat_lt most_pairs (length clients * length privileges) then Some (TooMany (told (length clients * length privileges))) else None
+    if nat_lt most_pairs (length clients * length privileges) then Some
+    (TooMany (told (length clients * length privileges))) else None
 
 -- the refusal names the fault; memory is wanting only where there is none
 abbrev pub Refuses : AuditRefusal → Option AuditRefusal → Type 0

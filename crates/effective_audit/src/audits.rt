@@ -33,9 +33,10 @@ pub enum AuditRefusal {
     Memory(AllocError),
 }
 
-/// The pairs of these applications and these privileges that the policies allow to the user, in the order of the applications
-/// and then of the privileges: those for which the root bucket answers ALLOW, with the buckets that policies point to.
-/// Refuses, in this order, `TooMany` exactly where there are more than `MOST_PAIRS` pairs to ask about, and `Memory`.
+/// The pairs of these applications and these privileges that the policies allow to the user, in the order of the
+/// applications and then of the privileges: those for which the root bucket answers ALLOW, with the buckets that
+/// policies point to. Refuses, in this order, `TooMany` exactly where there are more than `MOST_PAIRS` pairs to ask
+/// about, and `Memory`.
 pub fn audit(
     alloc: Global,
     database: &Database,

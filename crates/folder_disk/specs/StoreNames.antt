@@ -8,8 +8,8 @@ use lib.Chars.{codes}
 unfoldable pub is_mark : List ℕ → Bool
 is_mark name = bytes_eq name (codes "list") || bytes_eq name (codes "guard")
 
--- The files of a policy state: five by their whole name, those of buckets by `_`, those of packages by `r.`. A name that
--- ends with `~` is a backup's, and stands in a store without a mark too.
+-- The files of a policy state: five by their whole name, those of buckets by `_`, those of packages by `r.`. A name
+-- that ends with `~` is a backup's, and stands in a store without a mark too.
 unfoldable pub is_primary : List ℕ → Bool
 is_primary name =
     (list_any (bytes_eq name) (codes "stamp" ∷ codes "buckets" ∷ codes "users" ∷ codes "apps" ∷ codes "template" ∷ [])

@@ -15,8 +15,8 @@ const DIGEST_BYTES: usize = 32;
 /// What bytes come to, within one run of the program. Two texts of one length that come to the same are not known.
 pub type BytesDigest = [u8; DIGEST_BYTES];
 
-/// Two keys that the machine has drawn for this run alone, each of a SipHash. Nobody can choose a text by what it comes to,
-/// and two texts come to the same by a chance of 1 in 2 to the 128.
+/// Two keys that the machine has drawn for this run alone, each of a SipHash. Nobody can choose a text by what it comes
+/// to, and two texts come to the same by a chance of 1 in 2 to the 128.
 #[derive(Clone, Copy)]
 struct Keys {
     first: RandomState,

@@ -90,8 +90,8 @@ impl Failure {
         failure
     }
 
-    /// The failure of a step on a file in the folder, or on what the folder stands in, where its path is longer than the
-    /// machine takes. The folder is shown in place of it.
+    /// The failure of a step on a file in the folder, or on what the folder stands in, where its path is longer than
+    /// the machine takes. The folder is shown in place of it.
     pub(crate) fn long_path(alloc: Global, step: FolderStep, folder: &str) -> Failure
         ensures { result.step ≡ step }
     {

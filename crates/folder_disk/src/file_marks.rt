@@ -14,6 +14,7 @@ pub struct FileMark {
 }
 
 impl FileMark {
+    /// The mark of the file whose metadata these are.
     pub fn of(seen: &Metadata) -> FileMark {
         FileMark {
             device: seen.dev(),
@@ -43,6 +44,7 @@ pub struct PlainFile {
 }
 
 impl PlainFile {
+    /// The file whose metadata these are: its mark, and its count of hard links.
     pub fn of(seen: &Metadata) -> PlainFile {
         PlainFile {
             mark: FileMark::of(seen),

@@ -1,4 +1,5 @@
-ghost use Rattle.std.specs.Prelude.{◌≡◌, ◌≤◌, replicate, vec_len, true, false, Some, None, is_some, if◌then◌else◌, IsSome, IfOk, IsErr, OnOk, OnErr, string_bytes};
+ghost use Rattle.std.specs.Prelude.{◌≡◌, ◌≤◌, replicate, vec_len, true, false, Some, None};
+ghost use Rattle.std.specs.Prelude.{is_some, if◌then◌else◌, IsSome, IfOk, IsErr, OnOk, OnErr, string_bytes};
 ghost use Rattle.std.specs.IoError.{raw_os_error};
 ghost use Rattle.std.specs.Option.{option_copied};
 ghost use Rattle.desk_ports.specs.FileName.{IsFileName};
@@ -33,8 +34,8 @@ mod settled_writes;
 /// state but neither `list` nor `guard`, this call fails, nothing in the folder was changed, and the next call tries
 /// again. A program that does not ask for the lock is not kept out of the folder.
 ///
-/// Once all files are made sure of, a file that has the bytes which it is to be given is left as it is, and a name whose
-/// bytes the file of the same name with or without a `~` has becomes one more name of that file.
+/// Once all files are made sure of, a file that has the bytes which it is to be given is left as it is, and a name
+/// whose bytes the file of the same name with or without a `~` has becomes one more name of that file.
 ///
 /// A call that changes it asks for no memory, but for the text of the path that a failure shows, which may be lacking.
 ///
@@ -284,8 +285,8 @@ impl<R: Files<File = File> + Clock + AllocGlobal + Clone + Drop> FolderDisk<R> {
         }
     }
 
-    // The refusal of a call that reads the folder. The program's own want of memory is no error of the machine; one that
-    // the machine answers is.
+    // The refusal of a call that reads the folder. The program's own want of memory is no error of the machine; one
+    // that the machine answers is.
     fn refused(&mut self, failure: Failure) -> PortFault
         ensures machine { IsSome (raw_os_error failure.error) → result ≡ PortFault.Failed }
         ensures count { self.new.faults ≡ count_after_refusal result self.old.faults }

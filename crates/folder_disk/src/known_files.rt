@@ -13,8 +13,8 @@ const PLACES: usize = 4_096;
 /// At how many places, one behind the other, a file may be known.
 const TRIED: usize = 16;
 
-/// What is known of a file that is made sure of: by what the machine shows it, and what its bytes come to, where that was
-/// reckoned.
+/// What is known of a file that is made sure of: by what the machine shows it, and what its bytes come to, where that
+/// was reckoned.
 #[derive(Clone, Copy, Debug)]
 pub struct Known {
     pub mark: FileMark,
@@ -36,6 +36,7 @@ pub struct KnownFiles {
 }
 
 impl KnownFiles {
+    /// Nothing is known of any file. Takes the memory of all places; fails only for want of it.
     pub fn new(alloc: Global) -> Result<KnownFiles, AllocError> {
         let mut places = Vec::with_capacity(alloc, PLACES)?;
         for _ in 0..PLACES {

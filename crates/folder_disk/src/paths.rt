@@ -1,8 +1,9 @@
-// Paths of a folder's files, and of the folder that it stands in. None asks for memory: those of files have a room that is
-// made once, the others lie in their value.
+// Paths of a folder's files, and of the folder that it stands in. None asks for memory: those of files have a room that
+// is made once, the others lie in their value.
 ghost use Rattle.std.specs.Prelude.{◌≡◌, ◌≤◌, ◌<◌, ◌+◌, [], ◌∷◌, ◌++◌, length, true, false, IfSome, IfNone, IfOk};
 ghost use Rattle.desk_ports.specs.FileName.{IsFileName};
-ghost use Rattle.folder_disk.specs.Paths.{file_path as path_of_file, parent_path as path_of_parent, names_path as path_of_names, partner_name};
+ghost use Rattle.folder_disk.specs.Paths.{file_path as path_of_file, parent_path as path_of_parent};
+ghost use Rattle.folder_disk.specs.Paths.{names_path as path_of_names, partner_name};
 
 use crate::file_name_bytes::is_file_name;
 use arrayvec::ArrayString;
@@ -15,8 +16,8 @@ pub const MOST_PATH_BYTES: usize = 4_095;
 /// A path that the machine takes, if nothing else is wrong with it.
 pub type Path = ArrayString<MOST_PATH_BYTES>;
 
-/// Room for the path of one file of the folder after the other. The longest path that the machine takes fits, so that none
-/// asks for memory.
+/// Room for the path of one file of the folder after the other. The longest path that the machine takes fits, so that
+/// none asks for memory.
 #[derive(Drop)]
 pub struct PathRoom {
     text: String,

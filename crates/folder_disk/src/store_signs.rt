@@ -31,8 +31,8 @@ type ShownName = ArrayString<255>;
 /// Two names and the word between them.
 pub type ShownNames = ArrayString<515>;
 
-/// What was seen of a folder's names: whether one is that of the list or the guard, and the two least that are those of a
-/// policy state's files.
+/// What was seen of a folder's names: whether one is that of the list or the guard, and the two least that are those of
+/// a policy state's files.
 #[derive(Drop)]
 pub struct StoreSigns {
     marked: bool,
@@ -41,6 +41,7 @@ pub struct StoreSigns {
 }
 
 impl StoreSigns {
+    /// The signs of a folder of which no name was seen yet.
     pub fn none() -> StoreSigns
         ensures marked { result.marked ≡ false }
         ensures least { is_some result.least ≡ false }

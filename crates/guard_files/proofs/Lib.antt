@@ -18,3 +18,4 @@ pub mod Others
 pub mod Mounting
 pub mod MountMoments
 pub mod Renewing
+pub mod Entering

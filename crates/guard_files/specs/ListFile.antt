@@ -1,5 +1,5 @@
--- The file `list` and its backup: the version of the store, and then the names of a set's files, one a line, in strictly
--- rising order. A list of version 2 begins with a line that says so, one of version 1 with the first name.
+-- The file `list` and its backup: the version of the store, and then the names of a set's files, one a line, in
+-- strictly rising order. A list of version 2 begins with a line that says so, one of version 1 with the first name.
 use Rattle.std.specs.Prelude.{◌≡◌, ℕ, Bool, true, false, ◌&&◌, ◌==◌, if◌then◌else◌, List, [], ◌∷◌, ◌++◌, length, drop, nat_eq, Option, Some, None}
 use Rattle.std.specs.Option.{option_map}
 use Rattle.std.specs.List.{list_all, starts_with}

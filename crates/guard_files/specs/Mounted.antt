@@ -2,13 +2,13 @@
 use Rattle.std.specs.Prelude.{◌≡◌, ℕ, Bool, true, false, not, ◌&&◌, if◌then◌else◌, List, [], Option, Some, None, is_some, Result, Ok, Err}
 use Rattle.desk_ports.specs.Faults.{next_count}
 use Rattle.desk_ports.specs.FileMap.{FileMap, names_of, AreNamesOf}
-use Rattle.desk_ports.specs.Disk.{DiskState, MayLeave, WhereTold, with_all_durable}
-use Rattle.desk_ports.specs.Moments.{LeavesOnly}
+use Rattle.desk_ports.specs.Disk.{DiskState, MayLeave, with_all_durable}
 use Rattle.desk_ports.specs.declared.port_faults.PortFault.{PortFault}
 use Rattle.desk_ports.specs.declared.port_faults.PortFault.TheVariants.{Failed, Memory as NoMemory}
 use Rattle.desk_ports.specs.declared.file_sets.SetFile.{SetFile}
 use Rattle.guard_files.specs.declared.refusals.VaultRefusal.{VaultRefusal}
 use Rattle.guard_files.specs.declared.refusals.VaultRefusal.TheVariants.{StoreFault, Damaged, Memory}
+use Rattle.guard_files.specs.declared.survey.Survey.{Survey}
 use Rattle.guard_files.specs.OwnName.{guard_name, list_name, primary_name, backup_name, is_backup, is_own}
 use Rattle.std.specs.Str.{bytes_eq}
 use Rattle.guard_files.specs.Holding.{is_among}
@@ -58,21 +58,12 @@ pub record StandsFor (files : FileMap) (held : Option (List SetFile)) (left : Fi
   pub recovers : recover left ≡ Ok held
   pub others : AreOthersOf files left
 
--- How a refused mount leaves a disk. Its count rose where a call failed, and only there. A stop meanwhile left what
--- recovers as something that a stop at entry may leave. A damaged folder holds what it held, and that is durable.
-pub record IsLeftRefused {D : Type 0} (faults : D → ℕ) (state : D → Option DiskState) (moment : D → ℕ)
-    (left_since : D → ℕ → FileMap → Type 0) (old new : D) (refusal : VaultRefusal) : Type 0 where
-  pub count : faults new ≡ count_after_refusal refusal (faults old)
-  pub moments : WhereTold (state old) (λ before. LeavesOnly moment left_since old new (RecoversAsAllowed before))
-  pub damaged : IfDamaged refusal (λ file. WhereTold (state old) (λ before. (recover before.current ≡ Err file)
-      × (state new ≡ Some (with_all_durable before))))
-
 -- the disk tells a store at rest that holds this set, or none, and whose list is of version 2
 abbrev pub EndsAtRest : Option (List SetFile) → Option DiskState → Type 0
 EndsAtRest held told = (after : DiskState) × (told ≡ Some after) × IsLeftCurrent held after
 
--- The disk tells a store at rest that holds this set, or none, whatever the version of its list. The files of others are
--- those of the folder, and durable.
+-- The disk tells a store at rest that holds this set, or none, whatever the version of its list. The files of others
+-- are those of the folder, and durable.
 pub record IsAtRest (files : FileMap) (held : Option (List SetFile)) (after : DiskState) : Type 0 where
   pub settled : IsSettled held after
   pub untouched : (name : List ℕ) → is_own name ≡ false → after.touched name ≡ false
@@ -103,9 +94,12 @@ is_left_over false held name =
 
 -- What was read of a folder: its names, whether the guard is there, whether the list that was read is of version 1, and
 -- the set that the folder holds.
-pub record IsSurvey (files : FileMap) (held : Option (List SetFile)) (guarded is_old : Bool) (names : List (List ℕ))
-    : Type 0 where
-  pub listed : AreNamesOf files names
-  pub guard : guarded ≡ is_some (files guard_name)
-  pub old : is_old ≡ is_old_list (files (placed guarded list_name))
-  pub read : set_read guarded files ≡ Ok held
+pub record IsFound (files : FileMap) (found : Survey) : Type 0 where
+  pub listed : AreNamesOf files found.listing.items
+  pub guard : found.guarded ≡ is_some (files guard_name)
+  pub old : found.is_old ≡ is_old_list (files (placed found.guarded list_name))
+  pub read : set_read found.guarded files ≡ Ok found.held
+
+-- Where the disk tells that all is durable, and this was found in the folder, the fact holds of its state.
+abbrev pub WhereFound : Option DiskState → Survey → (DiskState → Type 0) → Type 0
+WhereFound told found P = (base : DiskState) → told ≡ Some (with_all_durable base) → IsFound base.current found → P base

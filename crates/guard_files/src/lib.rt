@@ -13,6 +13,8 @@ mod set_reading;
 mod settling;
 mod steps;
 mod store_names;
+mod survey;
+mod surveying;
 mod vault;
 
 pub use laws::{agreement_keeps_recovery, list_reads_back};
@@ -30,4 +32,6 @@ pub use steps::{
     write_backups, write_primaries,
 };
 pub use store_names::{StoreNames, fixed_name};
-pub use vault::{StoreFault, Unmounted, Vault};
+pub use survey::Survey;
+pub use surveying::look;
+pub use vault::{StoreFault, Vault};

@@ -12,8 +12,8 @@ use std::alloc::{AllocError, Global};
 /// What a list of version 2 begins with.
 pub const VERSION_LINE: &[u8] = b"version 2\n";
 
-/// The bytes of the list of these files, which is of version 2: its first line, and then their names in order, each with a
-/// newline behind it.
+/// The bytes of the list of these files, which is of version 2: its first line, and then their names in order, each with
+/// a newline behind it.
 pub fn list_bytes(alloc: Global, files: &[SetFile]) -> Result<Bytes, AllocError>
     ensures { IfOk result (λ bytes. bytes ≡ saved_list (names_of files.now)) }
 {

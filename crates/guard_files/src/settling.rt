@@ -1,35 +1,28 @@
-// A mount: what the folder holds is read, and made whole where a stop left a part.
-ghost use Rattle.std.specs.Prelude.{◌≡◌, List, ℕ, true, IfSome, map, filter, Some, None, Ok, Err, IsSome, IfOk, IfErr, OnOk};
+// The second half of a mount: what a stop left a part of is made whole, and what is left over is removed.
+ghost use Rattle.std.specs.Prelude.{◌≡◌, List, ℕ, true, map, filter, Some, None, Ok, IfOk, IfErr, OnOk};
 ghost use Rattle.desk_ports.specs.FileMap.{FileMap, AreNamesOf, names_of};
-ghost use Rattle.std.specs.List.{list_any};
-ghost use Rattle.std.specs.Str.{bytes_eq};
 ghost use Rattle.desk_ports.specs.PortFault.{count_after_call};
 ghost use Rattle.desk_ports.specs.Disk.{DiskState, WhereTold, MayLeave, with_all_durable};
-ghost use Rattle.desk_ports.specs.Moments.{AddsOnly, LeavesOnly};
+ghost use Rattle.desk_ports.specs.Moments.{AddsOnly};
 ghost use Rattle.guard_files.specs.OwnName.{guard_name, backup_name};
 ghost use Rattle.guard_files.specs.ListFile.{IsCurrent, are_listable, saved_list};
 ghost use Rattle.guard_files.specs.Telling.{StillTells};
-ghost use Rattle.guard_files.specs.Recovery.{backup_set, primary_set, recover};
+ghost use Rattle.guard_files.specs.Recovery.{backup_set, primary_set};
 ghost use Rattle.guard_files.specs.Holding.{is_among};
-ghost use Rattle.guard_files.specs.Mounted.{IfDamaged, count_after_mount, RecoversAsAllowed, StandsFor, Rests, EndsAtRest, IsSurvey};
+ghost use Rattle.guard_files.specs.Mounted.{IfDamaged, count_after_mount, WhereFound, StandsFor, Rests, EndsAtRest};
 ghost use Rattle.guard_files.specs.Mounted.{goes as does_go, is_left_over as left_over, set_names};
 ghost use Rattle.guard_files.specs.parts.Changes.{after, removals, primary_changes, guard_down};
 
 use crate::list_files::{backups_of, has_name, list_bytes};
+use crate::mounted::Mounted;
 use crate::own_names::{is_backup, is_guard, is_list, is_own};
-use crate::refusals::{VaultRefusal, refusal_of};
+use crate::refusals::VaultRefusal;
 use crate::save::save_set;
-use crate::set_reading::{Found, read_set};
 use crate::steps::{lower_guard, remove_files, save_primaries};
 use crate::store_names::StoreNames;
+use crate::survey::Survey;
 use desk_ports::{Disk, Failed, FileName, FileSet, SetFile};
 use std::alloc::{AllocError, Global};
-
-fn has_guard(names: &[FileName]) -> bool
-    ensures { result ≡ list_any (λ name. bytes_eq name guard_name) names.now }
-{
-    names.iter().any(|name| is_guard(name.as_slice()))
-}
 
 // Whether a set has a file of this name.
 fn is_held(held: &Option<FileSet>, name: &FileName) -> bool
@@ -284,94 +277,36 @@ fn finish_old<D: Disk>(
     }
 }
 
-// What a folder was found to hold, once all is durable.
-#[derive(Debug, Drop)]
-struct Survey {
-    held: Option<FileSet>,
-    guarded: bool,
-    is_old: bool,
-    listing: Vec<FileName>,
-}
+/// Brings a folder to rest in which this was found, and which no other call was made on since. Whoever calls it has
+/// judged the set: what is left over cannot be had again. Where the guard stood it renews the primaries from the backups
+/// and takes the guard away. Then it removes what is left over of the own names. Where no guard stood and the list was
+/// of version 1, it saves the set once more, by the calls of `save_set`. It may be stopped too, at any moment.
+pub fn settle<D: Disk>(alloc: Global, disk: &mut D, found: Survey) -> Result<Mounted, VaultRefusal>
+    ensures held { IfOk result (λ mounted. mounted ≡ found.held) }
+    ensures settled { OnOk result (WhereFound (D.state disk.old) found
+        (λ base. EndsAtRest found.held (D.state disk.new))) }
+    ensures undamaged { IfErr result (λ refusal. IfDamaged refusal (λ file. ⊥)) }
 
-// Makes all durable, and reads what the folder holds.
-fn survey_of<D: Disk>(
-    alloc: Global,
-    disk: &mut D,
-    names: &StoreNames,
-) -> Result<Survey, VaultRefusal>
-    ensures some { IfOk result (λ found. found.guarded ≡ true → IsSome found.held) }
-    ensures old { IfOk result (λ found. found.is_old ≡ true → IsSome found.held) }
-    ensures listable { IfOk result (λ found. IfSome found.held (λ set. are_listable (names_of set) ≡ true)) }
-    ensures done { IfOk result (λ found. WhereTold (D.state disk.old) (λ before.
-        (D.state disk.new ≡ Some (with_all_durable before))
-        × IsSurvey before.current found.held found.guarded found.is_old found.listing.items)) }
-    ensures damaged { IfErr result (λ refusal. IfDamaged refusal (λ file. WhereTold (D.state disk.old) (λ before.
-        (recover before.current ≡ Err file)
-        × (D.state disk.new ≡ Some (with_all_durable before))))) }
-    ensures moments { WhereTold (D.state disk.old)
-        (λ before. AddsOnly D.moment D.left_since disk.old disk.new (MayLeave before)) }
+    // A stop at any moment leaves what recovers to the set that was found, and the files of others.
+    ensures moments { WhereFound (D.state disk.old) found
+        (λ base. AddsOnly D.moment D.left_since disk.old disk.new (StandsFor base.current found.held)) }
     ensures tells { StillTells (D.state disk.old) (D.state disk.new) }
     ensures count { D.faults disk.new ≡ count_after_mount result (D.faults disk.old) }
 {
-    match disk.sync() {
-        Ok(()) => {}
-        Err(_) => return Err(VaultRefusal::StoreFault),
-    }
-    let listing = match disk.names() {
-        Ok(listing) => listing,
-        Err(fault) => return Err(refusal_of(fault)),
-    };
-    let guarded = has_guard(&listing);
-    match read_set(alloc, disk, names, guarded) {
-        Ok(Found { held, is_old }) => Ok(Survey {
-            held,
-            guarded,
-            is_old,
-            listing,
-        }),
-        Err(refusal) => Err(refusal),
-    }
-}
-
-/// Brings a folder to rest, whatever a stop made of it, and gives the set that it holds, or nothing where it holds
-/// none. It makes all durable and reads the names; it reads the set from the backups where the guard stands, else
-/// from the primaries. Where the guard stood it renews the primaries and takes the guard away. Then it removes what
-/// is left over of the own names. Where no guard stood and the list was of version 1, it saves the set once more, by the
-/// calls of `save_set`. A damaged folder is left as it is. It may be stopped too, at any moment.
-pub fn settle<D: Disk>(
-    alloc: Global,
-    disk: &mut D,
-    names: &StoreNames,
-) -> Result<Option<FileSet>, VaultRefusal>
-    ensures held { IfOk result (λ held. WhereTold (D.state disk.old) (λ before. recover before.current ≡ Ok held)) }
-    ensures settled { IfOk result (λ held. WhereTold (D.state disk.old)
-        (λ before. EndsAtRest held (D.state disk.new))) }
-    ensures damaged { IfErr result (λ refusal. IfDamaged refusal (λ file. WhereTold (D.state disk.old) (λ before.
-        (recover before.current ≡ Err file)
-        × (D.state disk.new ≡ Some (with_all_durable before))))) }
-
-    // A stop at any moment leaves what recovers as something that a stop at entry may leave.
-    ensures moments { WhereTold (D.state disk.old)
-        (λ before. LeavesOnly D.moment D.left_since disk.old disk.new (RecoversAsAllowed before)) }
-    ensures tells { StillTells (D.state disk.old) (D.state disk.new) }
-    ensures count { D.faults disk.new ≡ count_after_mount result (D.faults disk.old) }
-{
-    let found = match survey_of(alloc, disk, names) {
-        Ok(found) => found,
-        Err(refusal) => return Err(refusal),
-    };
     let Survey {
+        names,
         held,
         guarded,
         is_old,
         listing,
+        ..
     } = found;
     if guarded {
         let Some(set) = &held else {
             unreachable!();
         };
-        match finish_guarded(alloc, disk, names, &held, set, &listing) {
-            Ok(()) => return Ok(held),
+        match finish_guarded(alloc, disk, &names, &held, set, &listing) {
+            Ok(()) => return Ok(Mounted { names, held }),
             Err(refusal) => return Err(refusal),
         }
     }
@@ -379,13 +314,13 @@ pub fn settle<D: Disk>(
         let Some(set) = &held else {
             unreachable!();
         };
-        match finish_old(alloc, disk, names, &held, set, &listing) {
-            Ok(()) => return Ok(held),
+        match finish_old(alloc, disk, &names, &held, set, &listing) {
+            Ok(()) => return Ok(Mounted { names, held }),
             Err(refusal) => return Err(refusal),
         }
     }
     match finish(alloc, disk, &held, &listing) {
-        Ok(()) => Ok(held),
+        Ok(()) => Ok(Mounted { names, held }),
         Err(refusal) => Err(refusal),
     }
 }

@@ -3,12 +3,12 @@ ghost use Rattle.std.specs.Option.{option_copied};
 ghost use Rattle.std.specs.List.{AllPass};
 ghost use Rattle.desk_ports.specs.Faults.{next_count};
 ghost use Rattle.desk_ports.specs.FileMap.{names_of};
-ghost use Rattle.desk_ports.specs.Disk.{WhereTold, with_all_durable};
-ghost use Rattle.desk_ports.specs.Moments.{LeavesOnly};
+ghost use Rattle.desk_ports.specs.Disk.{WhereTold, MayLeave, with_all_durable};
+ghost use Rattle.desk_ports.specs.Moments.{AddsOnly, LeavesOnly};
 ghost use Rattle.guard_files.specs.OwnName.{is_listable};
 ghost use Rattle.guard_files.specs.Telling.{StillTells};
 ghost use Rattle.guard_files.specs.Recovery.{recover};
-ghost use Rattle.guard_files.specs.Mounted.{IfDamaged, count_after_mount, RecoversAsAllowed, EndsAtRest, IsLeftRefused};
+ghost use Rattle.guard_files.specs.Mounted.{IfDamaged, count_after_mount, IsFound, WhereFound, StandsFor, EndsAtRest};
 ghost use Rattle.guard_files.specs.Settled.{IsSettled, gone_names, IsInSave, EndsSettled};
 
 use crate::mounted::Mounted;
@@ -16,21 +16,16 @@ use crate::prepared::Prepared;
 use crate::refusals::VaultRefusal;
 use crate::settling::settle;
 use crate::store_names::StoreNames;
+use crate::survey::Survey;
+use crate::surveying::look;
 use desk_ports::{Disk, FileSet};
 use std::alloc::{AllocError, Global};
 use thiserror::Error;
 
-/// A save failed: a call of the disk did, and its count of faults rose. The vault is undecided until it is remounted.
+/// A save failed: a call of the disk did, and its count of faults rose. The vault is undecided until it is settled.
 #[derive(Clone, Copy, Debug, PartialEq, Eq, Error)]
 #[error("the disk failed in a save")]
 pub struct StoreFault;
-
-/// A mount that was refused: why, and the disk, as it was left.
-#[derive(Drop)]
-pub struct Unmounted<'d, D: Disk> {
-    pub refusal: VaultRefusal,
-    pub disk: &'d mut D,
-}
 
 /// An atomic store for a set of files in a folder. It replaces the whole set at once: a stop at any moment leaves the
 /// set before or the set after. Clauses see its disk, the set that it holds, and whether it is decided which set that
@@ -45,34 +40,8 @@ pub struct Vault<'d, D: Disk> {
 }
 
 impl<'d, D: Disk> Vault<'d, D> {
-    /// Mounts the folder, by the calls of `settle`. Refuses `StoreFault`, where a call of the disk failed; `Damaged`,
-    /// with the file, and then nothing in the folder was changed; and `Memory`. A refusal hands the disk back.
-    pub fn mount(alloc: Global, disk: &'d mut D) -> Result<Vault<'d, D>, Unmounted<'d, D>>
-        ensures decided { IfOk result (λ vault. vault.decided ≡ true) }
-        ensures held { IfOk result (λ vault. WhereTold (D.state disk.old)
-            (λ before. recover before.current ≡ Ok vault.held)) }
-
-        // The store is at rest then, and a stop meanwhile left what recovers as something that a stop at entry may
-        // leave.
-        ensures settled { IfOk result (λ vault. WhereTold (D.state disk.old)
-            (λ before. EndsAtRest vault.held (D.state vault.disk.now))) }
-        ensures moments { IfOk result (λ vault. WhereTold (D.state disk.old)
-            (λ before. LeavesOnly D.moment D.left_since disk.old vault.disk.now
-            (RecoversAsAllowed before))) }
-        ensures count { IfOk result (λ vault. D.faults vault.disk.now ≡ D.faults disk.old) }
-        ensures same_disk { IfOk result (λ vault. vault.disk.ghost_name ≡ disk.entry.ghost_name) }
-        ensures refused { IfErr result (λ left. IsLeftRefused D.faults D.state D.moment D.left_since disk.old
-            left.disk.now left.refusal) }
-        ensures handed_back { IfErr result (λ left. left.disk.ghost_name ≡ disk.entry.ghost_name) }
-    {
-        match Mounted::find(alloc, disk) {
-            Ok(found) => Ok(Vault::of(alloc, disk, found)),
-            Err(refusal) => Err(Unmounted { refusal, disk }),
-        }
-    }
-
-    /// The vault over a disk on which this set was found last, and which no other call was made on since. Takes no
-    /// memory.
+    /// The vault over a disk that `settle` brought to rest with this set, and which no other call was made on since.
+    /// Takes no memory.
     pub fn of(alloc: Global, disk: &'d mut D, found: Mounted) -> Vault<'d, D>
         ensures decided { result.decided ≡ true }
         ensures held { result.held ≡ found }
@@ -89,27 +58,50 @@ impl<'d, D: Disk> Vault<'d, D> {
         }
     }
 
-    /// Settles what the store holds, as a mount does, from whatever state. A refusal leaves the vault undecided.
-    pub fn remount(&mut self) -> Result<(), VaultRefusal>
-        ensures decided { OnOk result (self.new.decided ≡ true) }
-        ensures undecided { OnErr result (self.new.decided ≡ false) }
-        ensures held { OnOk result (WhereTold (D.state self.old.disk.now)
-            (λ before. recover before.current ≡ Ok self.new.held)) }
-        ensures settled { OnOk result (WhereTold (D.state self.old.disk.now)
-            (λ before. EndsAtRest self.new.held (D.state self.new.disk.now))) }
-        ensures moments { WhereTold (D.state self.old.disk.now)
-            (λ before. LeavesOnly D.moment D.left_since self.old.disk.now self.new.disk.now
-            (RecoversAsAllowed before)) }
+    /// Finds what the store holds, as the function `look` does, from whatever state. The vault is undecided then.
+    pub fn look(&mut self) -> Result<Survey, VaultRefusal>
+        ensures undecided { self.new.decided ≡ false }
+        ensures held { IfOk result (λ found. WhereTold (D.state self.old.disk.now)
+            (λ before. recover before.current ≡ Ok found.held)) }
+        ensures found { IfOk result (λ found. WhereTold (D.state self.old.disk.now) (λ before.
+            (D.state self.new.disk.now ≡ Some (with_all_durable before)) × IsFound before.current found)) }
         ensures damaged { IfErr result (λ refusal. IfDamaged refusal (λ file. WhereTold (D.state self.old.disk.now)
             (λ before. (recover before.current ≡ Err file)
             × (D.state self.new.disk.now ≡ Some (with_all_durable before))))) }
+        ensures moments { WhereTold (D.state self.old.disk.now)
+            (λ before. LeavesOnly D.moment D.left_since self.old.disk.now self.new.disk.now (MayLeave before)) }
         ensures tells { StillTells (D.state self.old.disk.now) (D.state self.new.disk.now) }
         ensures count { D.faults self.new.disk.now ≡ count_after_mount result (D.faults self.old.disk.now) }
         ensures same_disk { self.new.disk.ghost_name ≡ self.old.disk.ghost_name }
     {
         self.decided = false;
-        match settle(self.alloc, self.disk, &self.names) {
-            Ok(held) => {
+        match look(self.alloc, self.disk) {
+            Ok(found) => Ok(found),
+            Err(refusal) => Err(refusal),
+        }
+    }
+
+    /// Settles what `look` found, as the function `settle` does, where no other call was made on the disk since. A
+    /// refusal leaves the vault undecided.
+    pub fn settle(&mut self, found: Survey) -> Result<(), VaultRefusal>
+        ensures decided { OnOk result (self.new.decided ≡ true) }
+        ensures undecided { OnErr result (self.new.decided ≡ false) }
+        ensures held { OnOk result (self.new.held ≡ found.held) }
+        ensures settled { OnOk result (WhereFound (D.state self.old.disk.now) found
+            (λ base. EndsAtRest found.held (D.state self.new.disk.now))) }
+        ensures undamaged { IfErr result (λ refusal. IfDamaged refusal (λ file. ⊥)) }
+        ensures moments { WhereFound (D.state self.old.disk.now) found
+            (λ base. AddsOnly D.moment D.left_since self.old.disk.now self.new.disk.now
+            (StandsFor base.current found.held)) }
+        ensures tells { StillTells (D.state self.old.disk.now) (D.state self.new.disk.now) }
+        ensures count { D.faults self.new.disk.now ≡ count_after_mount result (D.faults self.old.disk.now) }
+        ensures same_disk { self.new.disk.ghost_name ≡ self.old.disk.ghost_name }
+    {
+        self.decided = false;
+        match settle(self.alloc, self.disk, found) {
+            Ok(mounted) => {
+                let Mounted { names, held } = mounted;
+                self.names = names;
                 self.held = held;
                 self.decided = true;
                 Ok(())
@@ -118,7 +110,7 @@ impl<'d, D: Disk> Vault<'d, D> {
         }
     }
 
-    /// Whether it is decided which set the store holds. After a failed save only `remount` may be called.
+    /// Whether it is decided which set the store holds. After a failed save only `look` and `settle` may be called.
     pub fn is_decided(&self) -> bool
         ensures { result ≡ self.now.decided }
     {
@@ -161,7 +153,7 @@ impl<'d, D: Disk> Vault<'d, D> {
         ensures decided { OnOk result (self.new.decided ≡ true) }
         ensures undecided { OnErr result (self.new.decided ≡ false) }
 
-        // From a store at rest, as a mount, a remount and a replacement leave it, it ends with a store at rest that
+        // From a store at rest, as a mount and a replacement leave it, it ends with a store at rest that
         // holds the new set, and a stop at any moment of the call leaves the set before or the set after.
         ensures settled { OnOk result (WhereTold (D.state self.old.disk.now) (λ before. IsSettled self.old.held before
             → EndsSettled prepared.set (D.state self.new.disk.now))) }

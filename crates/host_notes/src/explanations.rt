@@ -40,9 +40,9 @@ pub fn explain_streams<R: Eprint>(
     }
 }
 
-/// Says what a run that ended with this status failed on, why, and what can be done. The paths are those of the directory
-/// of the sockets and of the folder, and the failures the last ones there; that of the folder may have been told already.
-/// Where the variable names no directory, the folder's path is empty.
+/// Says what a run that ended with this status failed on, why, and what can be done. The paths are those of the
+/// directory of the sockets and of the folder, and the failures the last ones there; that of the folder may have been
+/// told already. Where the variable names no directory, the folder's path is empty.
 pub fn explain<R: Files + Eprint + AllocGlobal>(
     rt: &R,
     status: u8,
@@ -59,7 +59,8 @@ pub fn explain<R: Files + Eprint + AllocGlobal>(
         FOLDER_DAMAGED => explain_damage(rt, folder),
         NO_REPLY => tell(
             rt,
-            "what answers at the socket is another program, or a service of another release: see which process listens there",
+            "what answers at the socket is another program, or a service of another release: \
+                see which process listens there",
         ),
         COMMAND_TOO_LONG => tell(
             rt,
@@ -73,8 +74,8 @@ fn tell<R: Eprint>(rt: &R, line: &str) {
     let _ = eprintln!(rt; "privilege: {line}");
 }
 
-/// Says which call of the folder failed on what. The folder's path is empty where the variable names no directory: that is
-/// explained by `explain` alone.
+/// Says which call of the folder failed on what. The folder's path is empty where the variable names no directory: that
+/// is explained by `explain` alone.
 pub fn tell_folder_failure<R: Eprint>(rt: &R, folder: &str, failure: Option<&FolderFailure>) {
     if folder.is_empty() {
         return;

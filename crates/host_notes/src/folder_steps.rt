@@ -40,7 +40,8 @@ fn kind_advice(kind: ErrorKind) -> &'static str {
             "each file of the folder is a plain one, and no other program writes there"
         }
         _ => {
-            "what was answered is kept, and whether the command behind it is, 'status' tells once the folder can be used"
+            "what was answered is kept, and whether the command behind it is, \
+                'status' tells once the folder can be used"
         }
     }
 }

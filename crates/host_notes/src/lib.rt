@@ -1,8 +1,8 @@
-//! What a person is told on standard error around a run of the program: what standard input is read for, and behind a run
-//! that failed what failed on what and why, and then what can be done.
+//! What a person is told on standard error around a run of the program: what standard input is read for, and behind a
+//! run that failed what failed on what and why, and then what can be done.
 //!
-//! No clause speaks of it, and no promise of a run depends on it. Where standard error takes nothing, there is no one to
-//! tell.
+//! No clause speaks of it, and no promise of a run depends on it. Where standard error takes nothing, there is no one
+//! to tell.
 #![tactic(auto)]
 
 mod explanations;

@@ -23,7 +23,8 @@ pub(crate) fn net_advice<R: Files>(
             }
         }
         SocketStep::Send | SocketStep::Receive | SocketStep::AskWhetherUp | SocketStep::HoldEnd => {
-            "try again once a service is there; whether a command without an answer was accepted, ask before it is sent again"
+            "try again once a service is there; whether a command without an answer was accepted, \
+                ask before it is sent again"
         }
         _ => service_advice(kind),
     }

@@ -14,8 +14,8 @@ pub const DIRECTORY: &str = "PRIVILEGE_DIR";
 /// The path in place of a directory's that can't be one: no socket has such a path.
 const NO_DIRECTORY: &str = "\0";
 
-/// The directory that the variable names. It is the empty text, which stands for the working directory, where the variable is
-/// empty or not set, and there is none where the variable is no UTF-8 or longer than a path may be.
+/// The directory that the variable names. It is the empty text, which stands for the working directory, where the
+/// variable is empty or not set, and there is none where the variable is no UTF-8 or longer than a path may be.
 pub fn directory_path<E: Env>(env: &E, alloc: Global) -> Result<Option<String>, AllocError> {
     let mut buffer = [0; MOST_PATH_BYTES];
     let length = match env.var(DIRECTORY, &mut buffer) {

@@ -1,4 +1,5 @@
-//! The program's host: standard streams as sources and sinks, the words of the command line, and the directory of the folder and of the sockets.
+//! The program's host: standard streams as sources and sinks, the words of the command line, and the directory of the
+//! folder and of the sockets.
 #![tactic(auto)]
 
 mod argument_words;

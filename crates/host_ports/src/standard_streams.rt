@@ -1,5 +1,5 @@
-//! Readers and writers of std as sources and sinks. They tell their content where the reader or the writer does: those in
-//! memory do, standard input and output do not.
+//! Readers and writers of std as sources and sinks. They tell their content where the reader or the writer does: those
+//! in memory do, standard input and output do not.
 
 ghost use Rattle.std.specs.Prelude.{◌≡◌};
 
@@ -9,8 +9,8 @@ use std::io::{self, ErrorKind, Read, Write};
 /// How often an interrupted call is tried again before it counts as failed.
 const MOST_TRIES: u32 = 4_294_967_295;
 
-/// A source over a reader. A call that was interrupted is tried again; each other error of the reader is counted, and the
-/// last one kept.
+/// A source over a reader. A call that was interrupted is tried again; each other error of the reader is counted, and
+/// the last one kept.
 #[derive(Drop)]
 pub struct InputSource<R: Read + Drop> {
     pub reader: R,
@@ -54,9 +54,9 @@ impl<R: Read + Drop> Source for InputSource<R> {
     }
 }
 
-/// A sink over a writer, and a writer of notes for a person, a line each. A call of the first that was interrupted is tried
-/// again; each other error of it is counted, and each call in which it took nothing, and the last of these is kept. A note
-/// that the second doesn't take is lost.
+/// A sink over a writer, and a writer of notes for a person, a line each. A call of the first that was interrupted is
+/// tried again; each other error of it is counted, and each call in which it took nothing, and the last of these is
+/// kept. A note that the second doesn't take is lost.
 #[derive(Drop)]
 pub struct OutputSink<W: Write + Drop, N: Write + Drop> {
     pub writer: W,

@@ -22,7 +22,8 @@ impl Model for DoorCounts {
 
     ghost Value = { OpenDoors };
 
-    ghost view = { λ counts. record { open_doors = counts.open_doors; knocks = counts.knocks; is_shut = counts.is_shut } };
+    ghost view = { λ counts.
+        record { open_doors = counts.open_doors; knocks = counts.knocks; is_shut = counts.is_shut } };
 }
 
 impl DoorCounts {

@@ -90,7 +90,8 @@ impl Model for Wire {
 
     ghost Value = { WireBytes };
 
-    ghost view = { λ wire. record { to_dialler = wire.to_dialler; to_door = wire.to_door; is_closed = wire.is_closed } };
+    ghost view = { λ wire.
+        record { to_dialler = wire.to_dialler; to_door = wire.to_door; is_closed = wire.is_closed } };
 }
 
 impl Wire {
@@ -207,7 +208,8 @@ impl SharedWire {
         unreachable!()
     }
 
-    /// Whether there are bytes for this end, or the connection is closed. It waits for that, a tenth of a second at most.
+    /// Whether there are bytes for this end, or the connection is closed. It waits for that, a tenth of a second at
+    /// most.
     pub(crate) fn has_come<R: Wait + Clock>(&self, rt: &R, side: Side) -> bool {
         let wire = self.wire.lock(rt);
         let tick = Duration::from_millis(LOOK);

@@ -1,5 +1,6 @@
 -- A text that is cut at the first byte of a value.
-use Rattle.std.proofs.Common.{◌≡◌, ℕ, ◌+◌, Bool, true, false, not, cond, ltb, List, [], ◌∷◌, ◌++◌, length, take, drop, Option, Some, None, suc, refl, sym, ap, subst, ◌∙◌, append-nil, arith}
+use Rattle.std.proofs.Common.{◌≡◌, ℕ, ◌+◌, Bool, true, false, not, cond, ltb, List, [], ◌∷◌, ◌++◌, length, take, drop}
+use Rattle.std.proofs.Common.{Option, Some, None, suc, refl, sym, ap, subst, ◌∙◌, append-nil, arith}
 use Rattle.std.specs.Prelude.{◌==◌, position}
 use Rattle.std.specs.List.{slice_split, onto_first, position_or_len, list_all}
 use Rattle.std.proofs.lemmas.Bool.{and_parts, not-true, ltb-true, ltb-false, lt-ltb, le-ltb, eqb-true}
@@ -20,11 +21,13 @@ abbrev with_rest : List ℕ → Cut → Cut
 with_rest rest None = None
 with_rest rest (Some cut) = Some (cut.0, cut.1 ++ rest)
 
-onto_cut-with_rest : (byte : ℕ) (rest : List ℕ) (cut : Cut) → onto_cut byte (with_rest rest cut) ≡ with_rest rest (onto_cut byte cut)
+onto_cut-with_rest : (byte : ℕ) (rest : List ℕ) (cut : Cut)
+    → onto_cut byte (with_rest rest cut) ≡ with_rest rest (onto_cut byte cut)
 onto_cut-with_rest byte rest None = refl
 onto_cut-with_rest byte rest (Some cut) = refl
 
-onto_cut-onto_front : (byte : ℕ) (front : List ℕ) (cut : Cut) → onto_cut byte (onto_front front cut) ≡ onto_front (byte ∷ front) cut
+onto_cut-onto_front : (byte : ℕ) (front : List ℕ) (cut : Cut)
+    → onto_cut byte (onto_front front cut) ≡ onto_front (byte ∷ front) cut
 onto_cut-onto_front byte front None = refl
 onto_cut-onto_front byte front (Some cut) = refl
 
@@ -32,7 +35,8 @@ onto_cut-none : (byte : ℕ) (cut : Cut) → onto_cut byte cut ≡ None → cut 
 onto_cut-none byte None is = refl
 onto_cut-none byte (Some cut) is = cc
 
-onto_cut-some : (byte : ℕ) (cut : Cut) (found : List ℕ × List ℕ) → onto_cut byte cut ≡ Some found → (inner : List ℕ × List ℕ) × (cut ≡ Some inner)
+onto_cut-some : (byte : ℕ) (cut : Cut) (found : List ℕ × List ℕ) → onto_cut byte cut ≡ Some found
+    → (inner : List ℕ × List ℕ) × (cut ≡ Some inner)
 onto_cut-some byte None found is = cc
 onto_cut-some byte (Some cut) found is = (cut, refl)
 
@@ -41,7 +45,8 @@ pub cut_at-within : (mark : ℕ) (front rest : List ℕ) (cut : List ℕ × List
     → cut_at mark (front ++ rest) ≡ with_rest rest (cut_at mark front)
 cut_at-within mark [] rest cut is = cc
 cut_at-within mark (byte ∷ bytes) rest cut is = by_byte (λ inner found. cut_at-within mark bytes rest inner found) (byte == mark) is where
-  by_byte : ((inner : List ℕ × List ℕ) → cut_at mark bytes ≡ Some inner → cut_at mark (bytes ++ rest) ≡ with_rest rest (cut_at mark bytes))
+  by_byte : ((inner : List ℕ × List ℕ) → cut_at mark bytes ≡ Some inner → cut_at mark (bytes ++ rest) ≡ with_rest rest
+      (cut_at mark bytes))
       → (same : Bool) → cond {A = Cut} same (Some ([], bytes)) (onto_cut byte (cut_at mark bytes)) ≡ Some cut
       → cond {A = Cut} same (Some ([], bytes ++ rest)) (onto_cut byte (cut_at mark (bytes ++ rest)))
       ≡ with_rest rest (cond {A = Cut} same (Some ([], bytes)) (onto_cut byte (cut_at mark bytes)))
@@ -60,20 +65,25 @@ cut_at-past mark [] rest is = empty (cut_at mark rest) where
 cut_at-past mark (byte ∷ bytes) rest is = by_byte (λ none. cut_at-past mark bytes rest none) (byte == mark) is where
   by_byte : (cut_at mark bytes ≡ None → cut_at mark (bytes ++ rest) ≡ onto_front bytes (cut_at mark rest))
       → (same : Bool) → cond {A = Cut} same (Some ([], bytes)) (onto_cut byte (cut_at mark bytes)) ≡ None
-      → cond {A = Cut} same (Some ([], bytes ++ rest)) (onto_cut byte (cut_at mark (bytes ++ rest))) ≡ onto_front (byte ∷ bytes) (cut_at mark rest)
+      → cond {A = Cut} same (Some ([], bytes ++ rest)) (onto_cut byte (cut_at mark (bytes ++ rest)))
+      ≡ onto_front (byte ∷ bytes) (cut_at mark rest)
   by_byte later true is = cc
   by_byte later false is =
-      ap (onto_cut byte) (later (onto_cut-none byte (cut_at mark bytes) is)) ∙ onto_cut-onto_front byte bytes (cut_at mark rest)
+      ap (onto_cut byte) (later (onto_cut-none byte (cut_at mark bytes) is))
+      ∙ onto_cut-onto_front byte bytes (cut_at mark rest)
 
 -- where no byte is that one
-pub cut_at-none : (mark : ℕ) (text : List ℕ) → list_all (λ byte. not (byte == mark)) text ≡ true → cut_at mark text ≡ None
+pub cut_at-none : (mark : ℕ) (text : List ℕ) → list_all (λ byte. not (byte == mark)) text ≡ true
+    → cut_at mark text ≡ None
 cut_at-none mark [] is = refl
 cut_at-none mark (byte ∷ bytes) is =
     let both = and_parts (not (byte == mark)) (list_all (λ byte. not (byte == mark)) bytes) is in
-    ap (λ same. cond {A = Cut} same (Some ([], bytes)) (onto_cut byte (cut_at mark bytes))) (not-true (byte == mark) both.0)
+    ap (λ same. cond {A = Cut} same (Some ([], bytes)) (onto_cut byte (cut_at mark bytes)))
+    (not-true (byte == mark) both.0)
     ∙ ap (onto_cut byte) (cut_at-none mark bytes both.1)
 
-pub cut_at-first : (mark : ℕ) (text rest : List ℕ) → list_all (λ byte. not (byte == mark)) text ≡ true → (byte : ℕ) → (byte == mark) ≡ true
+pub cut_at-first : (mark : ℕ) (text rest : List ℕ) → list_all (λ byte. not (byte == mark)) text ≡ true → (byte : ℕ)
+    → (byte == mark) ≡ true
     → cut_at mark (text ++ byte ∷ rest) ≡ Some (text, rest)
 cut_at-first mark text rest is byte same =
     cut_at-past mark text (byte ∷ rest) (cut_at-none mark text is)
@@ -86,7 +96,8 @@ parts_of_cut split text None = text ∷ []
 parts_of_cut split text (Some cut) = cut.0 ∷ split cut.1
 
 pub slice_split-cut : (mark : ℕ) (text : List ℕ)
-    → slice_split (λ byte. byte == mark) text ≡ parts_of_cut (slice_split (λ byte. byte == mark)) text (cut_at mark text)
+    → slice_split (λ byte. byte == mark) text
+    ≡ parts_of_cut (slice_split (λ byte. byte == mark)) text (cut_at mark text)
 slice_split-cut mark [] = refl
 slice_split-cut mark (byte ∷ bytes) = by_byte (slice_split-cut mark bytes) (byte == mark) where
   split : List ℕ → List (List ℕ)
@@ -97,9 +108,12 @@ slice_split-cut mark (byte ∷ bytes) = by_byte (slice_split-cut mark bytes) (by
   onto None = refl
   onto (Some cut) = refl
 
-  by_byte : slice_split (λ byte. byte == mark) bytes ≡ parts_of_cut (slice_split (λ byte. byte == mark)) bytes (cut_at mark bytes)
-      → (same : Bool) → cond same ([] ∷ slice_split (λ byte. byte == mark) bytes) (onto_first byte (slice_split (λ byte. byte == mark) bytes))
-      ≡ parts_of_cut (slice_split (λ byte. byte == mark)) (byte ∷ bytes) (cond {A = Cut} same (Some ([], bytes)) (onto_cut byte (cut_at mark bytes)))
+  by_byte : slice_split (λ byte. byte == mark) bytes
+      ≡ parts_of_cut (slice_split (λ byte. byte == mark)) bytes (cut_at mark bytes)
+      → (same : Bool) → cond same ([] ∷ slice_split (λ byte. byte == mark) bytes)
+      (onto_first byte (slice_split (λ byte. byte == mark) bytes))
+      ≡ parts_of_cut (slice_split (λ byte. byte == mark)) (byte ∷ bytes)
+      (cond {A = Cut} same (Some ([], bytes)) (onto_cut byte (cut_at mark bytes)))
   by_byte later true = refl
   by_byte later false = ap (onto_first byte) later ∙ onto (cut_at mark bytes)
 
@@ -113,7 +127,8 @@ past_one n m true is = lt-ltb (1 + n) (suc m) (omega (arith, ltb-true n m is))
 past_one n m false is = le-ltb (1 + n) (suc m) (omega (arith, ltb-false n m is))
 
 place_later : (byte n : ℕ) (bytes : List ℕ) (below : Bool)
-    → onto_cut byte (cut_of_place bytes (cond below (Some n) None)) ≡ cut_of_place (byte ∷ bytes) (cond below (Some (1 + n)) None)
+    → onto_cut byte (cut_of_place bytes (cond below (Some n) None))
+    ≡ cut_of_place (byte ∷ bytes) (cond below (Some (1 + n)) None)
 place_later byte n bytes true =
     let e : 1 + n ≡ suc n = omega arith in
     let f : n + 1 ≡ suc n = omega arith in
@@ -121,7 +136,8 @@ place_later byte n bytes true =
     rw (e, f, g) refl
 place_later byte n bytes false = refl
 
-pub position-cut : (mark : ℕ) (text : List ℕ) → cut_at mark text ≡ cut_of_place text (position (λ byte. byte == mark) text)
+pub position-cut : (mark : ℕ) (text : List ℕ)
+    → cut_at mark text ≡ cut_of_place text (position (λ byte. byte == mark) text)
 position-cut mark [] = refl
 position-cut mark (byte ∷ bytes) = by_byte (position-cut mark bytes) (byte == mark) where
   by_byte : cut_at mark bytes ≡ cut_of_place bytes (position (λ byte. byte == mark) bytes) → (same : Bool)
@@ -129,7 +145,8 @@ position-cut mark (byte ∷ bytes) = by_byte (position-cut mark bytes) (byte == 
       ≡ (let n = cond (not same) (1 + position_or_len (λ byte. byte == mark) bytes) 0 in
       cut_of_place (byte ∷ bytes) (cond (ltb n (suc (length bytes))) (Some n) None))
   by_byte later true =
-      ap (λ below. cut_of_place (byte ∷ bytes) (cond below (Some 0) None)) (sym (lt-ltb 0 (suc (length bytes)) (omega arith)))
+      ap (λ below. cut_of_place (byte ∷ bytes) (cond below (Some 0) None))
+      (sym (lt-ltb 0 (suc (length bytes)) (omega arith)))
   by_byte later false =
       let n = position_or_len (λ byte. byte == mark) bytes in
       ap (onto_cut byte) later
@@ -138,11 +155,13 @@ position-cut mark (byte ∷ bytes) = by_byte (position-cut mark bytes) (byte == 
       (sym (past_one n (length bytes) (ltb n (length bytes)) refl))
 
 -- the two sides, and the byte between them
-pub cut_at-parts : (mark : ℕ) (text : List ℕ) (cut : List ℕ × List ℕ) → cut_at mark text ≡ Some cut → text ≡ cut.0 ++ mark ∷ cut.1
+pub cut_at-parts : (mark : ℕ) (text : List ℕ) (cut : List ℕ × List ℕ) → cut_at mark text ≡ Some cut
+    → text ≡ cut.0 ++ mark ∷ cut.1
 cut_at-parts mark [] cut is = cc
 cut_at-parts mark (byte ∷ bytes) cut is = by_byte (λ inner found. cut_at-parts mark bytes inner found) (byte == mark) refl is where
   by_byte : ((inner : List ℕ × List ℕ) → cut_at mark bytes ≡ Some inner → bytes ≡ inner.0 ++ mark ∷ inner.1)
-      → (same : Bool) → (byte == mark) ≡ same → cond {A = Cut} same (Some ([], bytes)) (onto_cut byte (cut_at mark bytes)) ≡ Some cut
+      → (same : Bool) → (byte == mark) ≡ same
+      → cond {A = Cut} same (Some ([], bytes)) (onto_cut byte (cut_at mark bytes)) ≡ Some cut
       → byte ∷ bytes ≡ cut.0 ++ mark ∷ cut.1
   by_byte later true same is =
       let pair : List ℕ × List ℕ = ([], bytes) in
@@ -165,14 +184,16 @@ module _ (mark : ℕ) (whole begun : List ℕ → Bool) (parted going : List ℕ
     (on : (front : List ℕ) → cut_at mark front ≡ None → begun front ≡ true
     → (rest : List ℕ) × (by_cut whole parted (front ++ rest) (cut_at mark (front ++ rest)) ≡ true))
   where
-    back_past : (front rest : List ℕ) (cut : Cut) → by_cut whole parted (front ++ rest) (onto_front front cut) ≡ true → begun front ≡ true
+    back_past : (front rest : List ℕ) (cut : Cut) → by_cut whole parted (front ++ rest) (onto_front front cut) ≡ true
+        → begun front ≡ true
     back_past front rest None is = from_whole front rest is
     back_past front rest (Some cut) is = from_parted front cut.0 cut.1 is
 
     back : (front rest : List ℕ) (cut : Cut) → cut_at mark front ≡ cut
         → by_cut whole parted (front ++ rest) (cut_at mark (front ++ rest)) ≡ true → by_cut begun going front cut ≡ true
     back front rest None found is =
-        back_past front rest (cut_at mark rest) (ap (by_cut whole parted (front ++ rest)) (sym (cut_at-past mark front rest found)) ∙ is)
+        back_past front rest (cut_at mark rest)
+        (ap (by_cut whole parted (front ++ rest)) (sym (cut_at-past mark front rest found)) ∙ is)
     back front rest (Some cut) found is =
         (behind cut.0).is_front cut.1 rest
         (ap (λ cut. by_cut whole parted (front ++ rest) (with_rest rest cut)) (sym found)
@@ -188,7 +209,8 @@ module _ (mark : ℕ) (whole begun : List ℕ → Bool) (parted going : List ℕ
               ∙ ap (with_rest more.0) found) ∙ more.1,
         )
 
-    pub Fronts-cut : Fronts (λ text. by_cut whole parted text (cut_at mark text)) (λ front. by_cut begun going front (cut_at mark front))
+    pub Fronts-cut : Fronts (λ text. by_cut whole parted text (cut_at mark text))
+        (λ front. by_cut begun going front (cut_at mark front))
     Fronts-cut = record {
       rest_of = λ front is. forth front (cut_at mark front) refl is;
       is_front = λ front rest is. back front rest (cut_at mark front) refl is;

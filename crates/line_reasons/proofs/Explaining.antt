@@ -8,7 +8,8 @@ use Rattle.line_reasons.specs.parts.Grounds.{is_line}
 use Rattle.line_reasons.specs.parts.Places.{Finds}
 use Rattle.line_reasons.proofs.KnownLines.{known_line, no_line, first_fault}
 
-pub explains : {A E : Type 0} (reading : List ℕ → Option A) (ground : Ground) → ((line : List ℕ) → is_some (reading line) ≡ is_line ground line)
+pub explains : {A E : Type 0} (reading : List ℕ → Option A) (ground : Ground)
+    → ((line : List ℕ) → is_some (reading line) ≡ is_line ground line)
     → (line : List ℕ) (result : Result (Option LineFault) E) → Finds ground line result → Explains reading line result
 explains reading ground reads line (Ok None) found = known_line reading ground reads line found
 explains reading ground reads line (Ok (Some fault)) found =

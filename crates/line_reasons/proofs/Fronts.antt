@@ -36,14 +36,16 @@ module _ (known others fronts more : List ℕ → Bool) where
   }
 
 -- the same known texts in other words
-pub Fronts-same : (known others fronts : List ℕ → Bool) → ((text : List ℕ) → known text ≡ others text) → Fronts others fronts → Fronts known fronts
+pub Fronts-same : (known others fronts : List ℕ → Bool) → ((text : List ℕ) → known text ≡ others text)
+    → Fronts others fronts → Fronts known fronts
 Fronts-same known others fronts same parts = record {
   rest_of = λ front is. (let found = parts.rest_of front is in (found.0, same (front ++ found.0) ∙ found.1));
   is_front = λ front rest is. parts.is_front front rest (sym (same (front ++ rest)) ∙ is);
 }
 
 -- a front of a front
-pub Fronts-front : (known fronts : List ℕ → Bool) → Fronts known fronts → (front more : List ℕ) → fronts (front ++ more) ≡ true → fronts front ≡ true
+pub Fronts-front : (known fronts : List ℕ → Bool) → Fronts known fronts → (front more : List ℕ)
+    → fronts (front ++ more) ≡ true → fronts front ≡ true
 Fronts-front known fronts parts front more is =
     let found = parts.rest_of (front ++ more) is in
     parts.is_front front (more ++ found.0) (ap known (sym (append_assoc front more found.0)) ∙ found.1)

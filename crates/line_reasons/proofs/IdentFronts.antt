@@ -1,5 +1,6 @@
 -- Names of packages, authors and applications, and names of buckets.
-use Rattle.std.proofs.Common.{◌≡◌, ℕ, Bool, true, false, not, cond, ◌&&◌, ◌||◌, List, [], ◌∷◌, ◌++◌, inl, inr, length, Option, Some, None, refl, sym, ap, ◌∙◌, arith}
+use Rattle.std.proofs.Common.{◌≡◌, ℕ, Bool, true, false, not, cond, ◌&&◌, ◌||◌, List, [], ◌∷◌, ◌++◌, inl, inr, length}
+use Rattle.std.proofs.Common.{Option, Some, None, refl, sym, ap, ◌∙◌, arith}
 use Rattle.std.specs.Prelude.{◌==◌, nat_le, nat_lt, is_none, is_some, codes, position}
 use Rattle.std.specs.List.{list_all}
 use Rattle.std.proofs.lemmas.Bool.{and_parts, and_from, or_cases, or_left, or_right, leb-true, lt-ltb, eqb-true}
@@ -9,7 +10,7 @@ use Rattle.cynara_keys.proofs.Order.{same_text-≡}
 use Rattle.app_registry.specs.Ident.{is_ident_byte, begins_with_mark, byte_fault, ident_fault}
 use Rattle.app_registry.specs.declared.idents.IdentRefusal.{IdentRefusal}
 use Rattle.app_registry.specs.declared.idents.IdentRefusal.TheVariants.{Empty, TooLong}
-use Rattle.line_script.specs.WordForms.{bucket_at, ident_at}
+use Rattle.script_words.specs.WordForms.{bucket_at, ident_at}
 use Rattle.line_reasons.specs.parts.Texts.{is_run}
 use Rattle.line_reasons.specs.parts.Forms.{begins_ident, begins_bucket}
 use Rattle.line_reasons.proofs.Fronts.{Fronts, is_dark}
@@ -24,7 +25,8 @@ tested false text = refl
 -- ---- idents
 
 ident_tests : (empty long mark : Bool) (bad : Option ℕ)
-    → is_none (cond {A = Option IdentRefusal} empty (Some Empty) (cond {A = Option IdentRefusal} long (Some TooLong) (byte_fault (cond mark (Some 0) bad))))
+    → is_none (cond {A = Option IdentRefusal} empty (Some Empty)
+    (cond {A = Option IdentRefusal} long (Some TooLong) (byte_fault (cond mark (Some 0) bad))))
     ≡ not empty && ((not long && is_none bad) && not mark)
 ident_tests true long mark bad = refl
 ident_tests false true mark bad = refl
@@ -36,27 +38,31 @@ ident_tests false false false None = refl
 pub ident_is : (text : List ℕ) → is_some (ident_at text) ≡ not (length text == 0) && begins_ident text
 ident_is text =
     tested (is_none (ident_fault text)) text
-    ∙ ident_tests (length text == 0) (nat_lt 100 (length text)) (begins_with_mark text) (position (λ byte. not (is_ident_byte byte)) text)
+    ∙ ident_tests (length text == 0) (nat_lt 100 (length text)) (begins_with_mark text)
+    (position (λ byte. not (is_ident_byte byte)) text)
     ∙ ap (λ b. not (length text == 0) && (b && not (begins_with_mark text))) (short_position 100 is_ident_byte text)
 
 ident_begins : (text : List ℕ) → is_some (ident_at text) ≡ true → begins_ident text ≡ true
 ident_begins text is = (and_parts (not (length text == 0)) (begins_ident text) (sym (ident_is text) ∙ is)).1
 
-front_of-mark : (front rest : List ℕ) → not (begins_with_mark (front ++ rest)) ≡ true → not (begins_with_mark front) ≡ true
+front_of-mark : (front rest : List ℕ) → not (begins_with_mark (front ++ rest)) ≡ true
+    → not (begins_with_mark front) ≡ true
 front_of-mark [] rest is = refl
 front_of-mark (byte ∷ front) rest is = is
 
 ident_front : (front rest : List ℕ) → begins_ident (front ++ rest) ≡ true → begins_ident front ≡ true
 ident_front front rest is =
     let both = and_parts (is_run 100 is_ident_byte (front ++ rest)) (not (begins_with_mark (front ++ rest))) is in
-    and_from (is_run 100 is_ident_byte front) (not (begins_with_mark front)) (run-front 100 is_ident_byte front rest both.0)
+    and_from (is_run 100 is_ident_byte front) (not (begins_with_mark front))
+    (run-front 100 is_ident_byte front rest both.0)
     (front_of-mark front rest both.1)
 
 ident_on : (front : List ℕ) → begins_ident front ≡ true → (rest : List ℕ) × (is_some (ident_at (front ++ rest)) ≡ true)
 ident_on [] is = (97 ∷ [], refl)
 ident_on (byte ∷ bytes) is =
     as_it_is (λ text. is_some (ident_at text)) (λ _. true) (byte ∷ bytes)
-    (ident_is (byte ∷ bytes) ∙ and_from (not (length (byte ∷ bytes) == 0)) (begins_ident (byte ∷ bytes)) (some_bytes byte bytes) is)
+    (ident_is (byte ∷ bytes) ∙ and_from (not (length (byte ∷ bytes) == 0)) (begins_ident (byte ∷ bytes))
+    (some_bytes byte bytes) is)
 
 pub Fronts-ident : Fronts (λ text. is_some (ident_at text)) begins_ident
 Fronts-ident = Fronts-closed (λ text. is_some (ident_at text)) begins_ident ident_begins ident_front ident_on
@@ -89,11 +95,13 @@ ident_byte-dark byte is = elim (or_cases (is_word_byte byte) (byte == 46) is) as
 
 pub ident-dark : (front : List ℕ) → begins_ident front ≡ true → list_all is_dark front ≡ true
 ident-dark front is =
-    dark_run 100 is_ident_byte ident_byte-dark front (and_parts (is_run 100 is_ident_byte front) (not (begins_with_mark front)) is).0
+    dark_run 100 is_ident_byte ident_byte-dark front
+    (and_parts (is_run 100 is_ident_byte front) (not (begins_with_mark front)) is).0
 
 -- ---- buckets
 
-bucket_tests : (root name : Bool) (text : List ℕ) → is_some (cond {A = Option (List ℕ)} root (Some []) (cond name (Some text) None)) ≡ root || name
+bucket_tests : (root name : Bool) (text : List ℕ)
+    → is_some (cond {A = Option (List ℕ)} root (Some []) (cond name (Some text) None)) ≡ root || name
 bucket_tests true name text = refl
 bucket_tests false true text = refl
 bucket_tests false false text = refl
@@ -114,7 +122,8 @@ bucket_front front rest is =
     elim (or_cases (same_text text (codes ".")) (is_run 64 is_word_byte text && not (length text == 0)) (sym (bucket_is text) ∙ is)) as (λ _. begins_bucket front ≡ true) [
       | inl root ↦ of_root front (same_text-≡ text (codes ".") root)
       | inr name ↦ or_right (same_text front (codes ".")) (is_run 64 is_word_byte front)
-          (run-front 64 is_word_byte front rest (and_parts (is_run 64 is_word_byte text) (not (length text == 0)) name).0)
+          (run-front 64 is_word_byte front rest
+          (and_parts (is_run 64 is_word_byte text) (not (length text == 0)) name).0)
     ] where
       of_root : (front : List ℕ) → front ++ rest ≡ 46 ∷ [] → begins_bucket front ≡ true
       of_root [] same = refl
@@ -125,7 +134,8 @@ bucket_front front rest is =
           let none : next ∷ (bytes ++ rest) ≡ [] = cc in
           cc
 
-bucket_on : (front : List ℕ) → begins_bucket front ≡ true → (rest : List ℕ) × (is_some (bucket_at (front ++ rest)) ≡ true)
+bucket_on : (front : List ℕ) → begins_bucket front ≡ true → (rest : List ℕ)
+    × (is_some (bucket_at (front ++ rest)) ≡ true)
 bucket_on [] is = (97 ∷ [], refl)
 bucket_on (byte ∷ bytes) is =
     let text = byte ∷ bytes in

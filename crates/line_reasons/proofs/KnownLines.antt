@@ -1,5 +1,7 @@
 -- The fronts of the lines that are known where a line stands.
-use Rattle.std.proofs.Common.{◌≡◌, ℕ, ◌+◌, ◌≤◌, ◌<◌, Bool, true, false, not, cond, ◌&&◌, ◌||◌, List, [], ◌∷◌, ◌++◌, length, take, Option, Some, None, IsSome, inl, inr, Result, Ok, Err, refl, sym, ap, ◌∙◌, append-nil}
+use Rattle.std.proofs.Common.{◌≡◌, ℕ, ◌+◌, ◌≤◌, ◌<◌, Bool, true, false, not, cond, ◌&&◌, ◌||◌, List, [], ◌∷◌, ◌++◌}
+use Rattle.std.proofs.Common.{length, take, Option, Some, None, IsSome, inl, inr, Result, Ok, Err, refl, sym, ap, ◌∙◌}
+use Rattle.std.proofs.Common.{append-nil}
 use Rattle.std.specs.Prelude.{is_some, option_map, option_and_then, codes}
 use Rattle.std.specs.List.{list_all}
 use Rattle.std.specs.Result.{result_ok}
@@ -13,8 +15,9 @@ use Rattle.rule_templates.specs.declared.lines.TemplateLine.{TemplateLine}
 use Rattle.rule_templates.specs.Template.{is_full, with_one_more}
 use Rattle.line_script.specs.Block.{Block, outside, batch, template, failed}
 use Rattle.line_script.specs.Spots.{spot_of}
-use Rattle.line_script.specs.Grammar.{is_skipped, lone_change, lone_step, outside_at, batch_at, template_at, any_length_step_at}
-use Rattle.line_script.specs.declared.places.Place.{Place}
+use Rattle.line_script.specs.Grammar.{is_skipped, lone_change, lone_step, outside_at, batch_at, template_at}
+use Rattle.line_script.specs.Grammar.{any_length_step_at}
+use Rattle.script_words.specs.declared.places.Place.{Place}
 use Rattle.line_script.specs.declared.spots.Spot.{Spot}
 use Rattle.line_script.specs.declared.spots.Spot.TheVariants as spot
 use Rattle.line_reasons.specs.declared.forms.Form.{Form}
@@ -23,7 +26,8 @@ use Rattle.line_reasons.specs.declared.grounds.Ground.TheVariants.{Outside, Batc
 use Rattle.line_reasons.specs.FirstFault.{IsFirstFault}
 use Rattle.line_reasons.specs.parts.Texts.{begins}
 use Rattle.line_reasons.specs.parts.Runs.{stand, run, goes_on_at, holds_at, is_line_of, begins_line_of}
-use Rattle.line_reasons.specs.parts.Grounds.{is_verb_line, begins_verb_line, template_forms, rule_forms, is_line, begins_line, ground_of}
+use Rattle.line_reasons.specs.parts.Grounds.{is_verb_line, begins_verb_line, template_forms, rule_forms, is_line}
+use Rattle.line_reasons.specs.parts.Grounds.{begins_line, ground_of}
 use Rattle.line_reasons.proofs.Fronts.{Fronts, Fronts-or}
 use Rattle.line_reasons.proofs.TextFronts.{Fronts-text}
 use Rattle.line_reasons.proofs.WordRuns.{line_fronts}
@@ -42,23 +46,30 @@ skipped_fronts = record {
   back (byte ∷ front) rest is = is
 
 -- lines that are known only where a test passes
-guarded : (open_ : Bool) (known fronts : List ℕ → Bool) → Fronts known fronts → Fronts (λ line. open_ && known line) (λ front. open_ && fronts front)
+guarded : (open_ : Bool) (known fronts : List ℕ → Bool) → Fronts known fronts
+    → Fronts (λ line. open_ && known line) (λ front. open_ && fronts front)
 guarded true known fronts parts = parts
 guarded false known fronts parts = record { rest_of = λ front is. cc; is_front = λ front rest is. cc }
 
 -- blanks lead nowhere
-blanks_stay : (forms : List Form) (blanks : List ℕ) → list_all is_blank blanks ≡ true → run true (stand forms []) blanks ≡ Some (stand forms [])
+blanks_stay : (forms : List Form) (blanks : List ℕ) → list_all is_blank blanks ≡ true
+    → run true (stand forms []) blanks ≡ Some (stand forms [])
 blanks_stay forms [] is = refl
 blanks_stay forms (byte ∷ bytes) is =
     let both = and_parts (is_blank byte) (list_all is_blank bytes) is in
-    ap (λ blank. option_and_then (λ next. run true next bytes) (cond blank (Some (stand forms [])) (Some (stand forms (byte ∷ []))))) both.0
+    ap (λ blank. option_and_then (λ next. run true next bytes)
+    (cond blank (Some (stand forms [])) (Some (stand forms (byte ∷ []))))) both.0
     ∙ blanks_stay forms bytes both.1
 
-rule_fronts : Fronts (λ line. list_all is_blank line || is_line_of true rule_forms line) (begins_line_of true rule_forms)
+rule_fronts : Fronts (λ line. list_all is_blank line || is_line_of true rule_forms line)
+    (begins_line_of true rule_forms)
 rule_fronts = record {
   rest_of = λ front is.
-      let found = (line_fronts true rule_forms).rest_of front is in
-      (found.0, or_right (list_all is_blank (front ++ found.0)) (is_line_of true rule_forms (front ++ found.0)) found.1);
+      let found = (line_fronts true rule_forms).rest_of front is in (
+        found.0,
+        or_right (list_all is_blank (front ++ found.0))
+            (is_line_of true rule_forms (front ++ found.0)) found.1,
+      );
   is_front = λ front rest is. elim (or_cases (list_all is_blank (front ++ rest)) (is_line_of true rule_forms (front ++ rest)) is) as (λ _. begins_line_of true rule_forms front ≡ true) [
     | inl blank ↦ (let all = and_parts (list_all is_blank front) (list_all is_blank rest) (sym (list_all-append is_blank front rest) ∙ blank) in
         ap (holds_at (goes_on_at true)) (blanks_stay rule_forms front all.0))
@@ -68,26 +79,35 @@ rule_fronts = record {
 
 pub ground_fronts : (ground : Ground) → Fronts (is_line ground) (begins_line ground)
 ground_fronts (Outside place) =
-    Fronts-or is_skipped (λ line. same_text line (codes "batch") || (same_text line (codes "template") || is_verb_line (Some place) line))
-    is_skipped (λ front. begins front (codes "batch") || (begins front (codes "template") || begins_verb_line (Some place) front)) skipped_fronts
-    (Fronts-or (λ line. same_text line (codes "batch")) (λ line. same_text line (codes "template") || is_verb_line (Some place) line)
-    (λ front. begins front (codes "batch")) (λ front. begins front (codes "template") || begins_verb_line (Some place) front) (Fronts-text (codes "batch"))
-    (Fronts-or (λ line. same_text line (codes "template")) (is_verb_line (Some place)) (λ front. begins front (codes "template")) (begins_verb_line (Some place))
+    Fronts-or is_skipped (λ line. same_text line (codes "batch") ||
+    (same_text line (codes "template") || is_verb_line (Some place) line))
+    is_skipped (λ front. begins front (codes "batch") ||
+    (begins front (codes "template") || begins_verb_line (Some place) front)) skipped_fronts
+    (Fronts-or (λ line. same_text line (codes "batch"))
+    (λ line. same_text line (codes "template") || is_verb_line (Some place) line)
+    (λ front. begins front (codes "batch"))
+    (λ front. begins front (codes "template") || begins_verb_line (Some place) front) (Fronts-text (codes "batch"))
+    (Fronts-or (λ line. same_text line (codes "template")) (is_verb_line (Some place))
+    (λ front. begins front (codes "template")) (begins_verb_line (Some place))
     (Fronts-text (codes "template")) (verb_fronts (Some place))))
 ground_fronts Batch =
     Fronts-or is_skipped (λ line. same_text line (codes "end") || is_verb_line None line)
     is_skipped (λ front. begins front (codes "end") || begins_verb_line None front) skipped_fronts
-    (Fronts-or (λ line. same_text line (codes "end")) (is_verb_line None) (λ front. begins front (codes "end")) (begins_verb_line None)
+    (Fronts-or (λ line. same_text line (codes "end")) (is_verb_line None) (λ front. begins front (codes "end"))
+    (begins_verb_line None)
     (Fronts-text (codes "end")) (verb_fronts None))
 ground_fronts (Template is_full) =
     Fronts-or (λ line. same_text line (codes "end")) (λ line. not is_full && is_line_of true template_forms line)
-    (λ front. begins front (codes "end")) (λ front. not is_full && begins_line_of true template_forms front) (Fronts-text (codes "end"))
-    (guarded (not is_full) (is_line_of true template_forms) (begins_line_of true template_forms) (line_fronts true template_forms))
+    (λ front. begins front (codes "end")) (λ front. not is_full && begins_line_of true template_forms front)
+    (Fronts-text (codes "end"))
+    (guarded (not is_full) (is_line_of true template_forms) (begins_line_of true template_forms)
+    (line_fronts true template_forms))
 ground_fronts Rules = rule_fronts
 
 -- ---- as line_script and smack_rules read them
 
-chosen : {A : Type 0} (b : Bool) (value : A) (other : Option A) → is_some (cond b (Some value) other) ≡ b || is_some other
+chosen : {A : Type 0} (b : Bool) (value : A) (other : Option A)
+    → is_some (cond b (Some value) other) ≡ b || is_some other
 chosen true value other = refl
 chosen false value other = refl
 
@@ -112,7 +132,8 @@ outside_is place line =
     (chosen (same_text line (codes "template")) _ _
     ∙ ap (λ b. same_text line (codes "template") || b) (mapped _ (lone_step place line) ∙ step_is place line)))
 
-batch_is : (place : Place) (changes : List Change) (line : List ℕ) → is_some (batch_at place changes line) ≡ is_line Batch line
+batch_is : (place : Place) (changes : List Change) (line : List ℕ)
+    → is_some (batch_at place changes line) ≡ is_line Batch line
 unfolding batch_at
 batch_is place changes line =
     chosen (is_skipped line) _ _
@@ -125,7 +146,8 @@ template_lines_are : (place : Place) (lines : List TemplateLine) (line : List �
 unfolding template_at
 template_lines_are place lines line =
     chosen (same_text line (codes "end")) _ _
-    ∙ ap (λ b. same_text line (codes "end") || b) (mapped _ (result_ok (with_one_more lines line)) ∙ template_is lines line)
+    ∙ ap (λ b. same_text line (codes "end") || b)
+    (mapped _ (result_ok (with_one_more lines line)) ∙ template_is lines line)
 
 pub steps_are : (block : Block) (spot : Spot) → spot_of block ≡ Some spot → (line : List ℕ)
     → is_some (any_length_step_at block line) ≡ is_line (ground_of spot) line
@@ -162,14 +184,17 @@ module _ {A : Type 0} (reading : List ℕ → Option A) (ground : Ground) (reads
   pub no_line : (line : List ℕ) → is_line ground line ≡ false → reading line ≡ None
   no_line line wrong = none_of (reading line) (reads line ∙ wrong)
 
-  pub first_fault : (line : List ℕ) (place : ℕ) → is_line ground line ≡ false → place ≤ length line → begins_line ground (take place line) ≡ true
+  pub first_fault : (line : List ℕ) (place : ℕ) → is_line ground line ≡ false → place ≤ length line
+      → begins_line ground (take place line) ≡ true
       → (place < length line → begins_line ground (take (place + 1) line) ≡ false) → IsFirstFault reading line place
   first_fault line place wrong within begun parts = record {
     wrong = no_line line wrong;
     within = within;
-    begun = (let found = (ground_fronts ground).rest_of (take place line) begun in (found.0, known_line (take place line ++ found.0) found.1));
+    begun = (let found = (ground_fronts ground).rest_of
+        (take place line) begun in (found.0, known_line (take place line ++ found.0) found.1));
     parts = λ below rest. none_of (reading (take (place + 1) line ++ rest))
-        (reads (take (place + 1) line ++ rest) ∙ false_from_ne_true (is_line ground (take (place + 1) line ++ rest)) (λ known.
+        (reads (take (place + 1) line ++ rest) ∙ false_from_ne_true (is_line ground (take (place + 1) line ++ rest))
+        (λ known.
         let begun = (ground_fronts ground).is_front (take (place + 1) line) rest known in
         let none : true ≡ false = sym begun ∙ parts below in
         cc));

@@ -1,5 +1,6 @@
 -- Labels and mode words.
-use Rattle.std.proofs.Common.{◌≡◌, ℕ, Bool, true, false, not, cond, ◌&&◌, ◌||◌, List, [], ◌∷◌, ◌++◌, length, Option, Some, None, refl, sym, ap, ◌∙◌, arith}
+use Rattle.std.proofs.Common.{◌≡◌, ℕ, Bool, true, false, not, cond, ◌&&◌, ◌||◌, List, [], ◌∷◌, ◌++◌, length, Option}
+use Rattle.std.proofs.Common.{Some, None, refl, sym, ap, ◌∙◌, arith}
 use Rattle.std.specs.Prelude.{◌==◌, nat_le, nat_lt, is_none, is_some, position}
 use Rattle.std.specs.List.{list_all}
 use Rattle.std.proofs.lemmas.Bool.{and_parts, and_from, lt-ltb, le-leb, leb-true, not_from_false}
@@ -37,26 +38,31 @@ label_is text =
     let bad = position (λ byte. not (is_label_byte byte)) text in
     ap (λ fault. is_none (cond {A = Option LabelRefusal} (length text == 0) (Some Empty) (cond {A = Option LabelRefusal} (nat_lt 255 (length text)) (Some TooLong) fault))) (byte_fault-cases text bad)
     ∙ label_tests (length text == 0) (nat_lt 255 (length text)) bad (begins_with_dash text) (is_special text)
-    ∙ ap (λ b. not (length text == 0) && (b && not (begins_with_dash text)) && not (is_special text)) (short_position 255 is_label_byte text)
+    ∙ ap (λ b. not (length text == 0) && (b && not (begins_with_dash text)) && not (is_special text))
+    (short_position 255 is_label_byte text)
 
 label_begins : (text : List ℕ) → is_label text ≡ true → begins_label text ≡ true
 label_begins text is =
-    let first = and_parts (not (length text == 0) && begins_label text) (not (is_special text)) (sym (label_is text) ∙ is) in
+    let first = and_parts (not (length text == 0) && begins_label text) (not (is_special text))
+    (sym (label_is text) ∙ is) in
     (and_parts (not (length text == 0)) (begins_label text) first.0).1
 
-label_from : (text : List ℕ) → not (length text == 0) ≡ true → begins_label text ≡ true → is_special text ≡ false → is_label text ≡ true
+label_from : (text : List ℕ) → not (length text == 0) ≡ true → begins_label text ≡ true → is_special text ≡ false
+    → is_label text ≡ true
 label_from text some begun plain =
     label_is text ∙ and_from (not (length text == 0) && begins_label text) (not (is_special text))
     (and_from (not (length text == 0)) (begins_label text) some begun) (not_from_false (is_special text) plain)
 
-front_of-dash : (front rest : List ℕ) → not (begins_with_dash (front ++ rest)) ≡ true → not (begins_with_dash front) ≡ true
+front_of-dash : (front rest : List ℕ) → not (begins_with_dash (front ++ rest)) ≡ true
+    → not (begins_with_dash front) ≡ true
 front_of-dash [] rest is = refl
 front_of-dash (byte ∷ front) rest is = is
 
 pub label-front : (front rest : List ℕ) → begins_label (front ++ rest) ≡ true → begins_label front ≡ true
 label-front front rest is =
     let both = and_parts (is_run 255 is_label_byte (front ++ rest)) (not (begins_with_dash (front ++ rest))) is in
-    and_from (is_run 255 is_label_byte front) (not (begins_with_dash front)) (run-front 255 is_label_byte front rest both.0)
+    and_from (is_run 255 is_label_byte front) (not (begins_with_dash front))
+    (run-front 255 is_label_byte front rest both.0)
     (front_of-dash front rest both.1)
 
 or_false : (a b : Bool) → a && false || b && false ≡ false
@@ -72,7 +78,8 @@ label_on (byte ∷ []) is =
     let one = and_parts (nat_le 1 255) (is_label_byte byte && true) both.0 in (
       97 ∷ [],
       label_from (byte ∷ 97 ∷ []) refl
-          (and_from (is_run 255 is_label_byte (byte ∷ 97 ∷ [])) (not (byte == 45)) one.1 both.1) (or_false (byte == 64) (byte == 63)),
+          (and_from (is_run 255 is_label_byte (byte ∷ 97 ∷ [])) (not (byte == 45)) one.1 both.1)
+          (or_false (byte == 64) (byte == 63)),
     )
 label_on (byte ∷ next ∷ bytes) is =
     as_it_is is_label (λ _. true) (byte ∷ next ∷ bytes)
@@ -90,7 +97,8 @@ label_byte-dark byte is =
 
 pub label-dark : (front : List ℕ) → begins_label front ≡ true → list_all is_dark front ≡ true
 label-dark front is =
-    dark_run 255 is_label_byte label_byte-dark front (and_parts (is_run 255 is_label_byte front) (not (begins_with_dash front)) is).0
+    dark_run 255 is_label_byte label_byte-dark front
+    (and_parts (is_run 255 is_label_byte front) (not (begins_with_dash front)) is).0
 
 -- ---- mode words
 
@@ -109,13 +117,17 @@ modes_is text =
 modes_begin : (text : List ℕ) → is_some (modes_of text) ≡ true → begins_modes text ≡ true
 modes_begin text is = (and_parts (nat_le 1 (length text)) (begins_modes text) (sym (modes_is text) ∙ is)).1
 
-pub modes_from : (byte : ℕ) (bytes : List ℕ) → begins_modes (byte ∷ bytes) ≡ true → is_some (modes_of (byte ∷ bytes)) ≡ true
+pub modes_from : (byte : ℕ) (bytes : List ℕ) → begins_modes (byte ∷ bytes) ≡ true
+    → is_some (modes_of (byte ∷ bytes)) ≡ true
 modes_from byte bytes is =
-    modes_is (byte ∷ bytes) ∙ and_from (nat_le 1 (length (byte ∷ bytes))) (begins_modes (byte ∷ bytes)) (le-leb 1 (length (byte ∷ bytes)) (omega arith)) is
+    modes_is (byte ∷ bytes) ∙ and_from (nat_le 1 (length (byte ∷ bytes))) (begins_modes (byte ∷ bytes))
+    (le-leb 1 (length (byte ∷ bytes)) (omega arith)) is
 
 modes_on : (front : List ℕ) → begins_modes front ≡ true → (rest : List ℕ) × (is_some (modes_of (front ++ rest)) ≡ true)
 modes_on [] is = (114 ∷ [], refl)
-modes_on (byte ∷ bytes) is = as_it_is (λ text. is_some (modes_of text)) (λ _. true) (byte ∷ bytes) (modes_from byte bytes is)
+modes_on (byte ∷ bytes) is = as_it_is (λ text. is_some (modes_of text)) (λ _. true) (byte ∷ bytes)
+    (modes_from byte bytes is)
 
 pub Fronts-modes : Fronts (λ text. is_some (modes_of text)) begins_modes
-Fronts-modes = Fronts-closed (λ text. is_some (modes_of text)) begins_modes modes_begin (run-front 64 is_mode_byte) modes_on
+Fronts-modes = Fronts-closed (λ text. is_some (modes_of text)) begins_modes modes_begin
+    (run-front 64 is_mode_byte) modes_on

@@ -1,5 +1,6 @@
 -- The lines that line_script reads, as lines of forms.
-use Rattle.std.proofs.Common.{◌≡◌, ℕ, Bool, true, false, cond, ◌&&◌, List, [], ◌∷◌, Option, Some, None, refl, sym, ap, ◌∙◌}
+use Rattle.std.proofs.Common.{◌≡◌, ℕ, Bool, true, false, cond, ◌&&◌, List, [], ◌∷◌, Option, Some, None, refl, sym, ap}
+use Rattle.std.proofs.Common.{◌∙◌}
 use Rattle.std.specs.Prelude.{is_some, option_map, codes}
 use Rattle.std.specs.List.{list_all}
 use Rattle.cynara_keys.specs.Text.{same_text}
@@ -8,23 +9,32 @@ use Rattle.cynara_keys.specs.Key.{Key}
 use Rattle.cynara_keys.specs.Key.{Question}
 use Rattle.cynara_keys.specs.declared.keys.Filter.{Filter}
 use Rattle.bucket_store.specs.declared.policy_changes.Change.{Change}
-use Rattle.line_script.specs.Words.{word, end_of, ◌>>=◌}
+use Rattle.script_words.specs.Words.{word, end_of, ◌>>=◌}
 use Rattle.level_requests.specs.Level.{level_at}
 use Rattle.level_requests.specs.declared.requests.Setter.{Setter}
 use Rattle.level_requests.specs.declared.requests.Setter.TheVariants.{Own, Administrator}
-use Rattle.line_script.specs.WordForms.{bucket_at, name_at, field_at, filter_field_at, depth_at, result_at, uid_at, user_type_at, scope_at, package_kind_at, ident_at, author_at, label_at, request_at}
-use Rattle.line_script.specs.Grammar.{key_at, question_at, filter_at, names_at, set_at, unset_at, set_bucket_at, drop_at, erase_at, layout_at, user_at, nouser_at, install_at, convert_at, remove_at, list_at, check_at, from_at, access_at, target_at, setter_at, level_line_at, levels_at, audit_at, share_at, unshare_at, shares_at, status_at, stop_at, change_at, change_step, line_at}
-use Rattle.line_script.specs.declared.verbs.Verb.{Verb}
-use Rattle.line_script.specs.declared.verbs.Verb.TheVariants as verb
+use Rattle.script_words.specs.WordForms.{bucket_at, name_at, field_at, filter_field_at, depth_at, result_at, uid_at}
+use Rattle.script_words.specs.WordForms.{user_type_at, scope_at, package_kind_at, ident_at, author_at, label_at}
+use Rattle.script_words.specs.WordForms.{request_at}
+use Rattle.line_script.specs.Grammar.{names_at, set_at, unset_at, set_bucket_at, drop_at, erase_at, layout_at, user_at}
+use Rattle.line_script.specs.Grammar.{nouser_at, install_at, convert_at, remove_at, list_at, check_at, from_at}
+use Rattle.line_script.specs.Grammar.{access_at, target_at, setter_at, level_line_at, levels_at, audit_at, share_at}
+use Rattle.line_script.specs.Grammar.{unshare_at, shares_at, status_at, stop_at, change_at, change_step, line_at}
+use Rattle.script_words.specs.Phrases.{key_at, question_at, filter_at}
+use Rattle.script_words.specs.declared.verbs.Verb.{Verb}
+use Rattle.script_words.specs.declared.verbs.Verb.TheVariants as verb
 use Rattle.line_reasons.specs.declared.forms.Form.{Form}
-use Rattle.line_reasons.specs.declared.forms.Form.TheVariants.{Bucket, Field, Name, Names, FilterField, Depth, Result, Uid, UserType, Scope, PackageKind, Setter as SetterForm, Level as LevelForm, Ident, Author, Label, Request}
+use Rattle.line_reasons.specs.declared.forms.Form.TheVariants.{Bucket, Field, Name, Names, FilterField, Depth, Result}
+use Rattle.line_reasons.specs.declared.forms.Form.TheVariants.{Uid, UserType, Scope, PackageKind, Setter as SetterForm}
+use Rattle.line_reasons.specs.declared.forms.Form.TheVariants.{Level as LevelForm, Ident, Author, Label, Request}
 use Rattle.line_reasons.specs.parts.Forms.{is_word, may_lack}
 use Rattle.line_reasons.specs.parts.Runs.{behind_form}
 use Rattle.line_reasons.specs.parts.Grounds.{verb_forms, changes_policies, forms_if}
 use Rattle.line_reasons.proofs.IdentFronts.{tested}
 use Rattle.line_reasons.proofs.Words.{holds_left, fits}
 
-module _ {A B : Type 0} (form : Form) (forms : List Form) (reading : List ℕ → Option A) (reads : (text : List ℕ) → is_some (reading text) ≡ is_word form text)
+module _ {A B : Type 0} (form : Form) (forms : List Form) (reading : List ℕ → Option A)
+    (reads : (text : List ℕ) → is_some (reading text) ≡ is_word form text)
     (must : may_lack form ≡ false)
     (plain : (text : List ℕ) → behind_form form forms text ≡ forms) (next : A × List (List ℕ) → Option B) where
   by_word : ((value : A) (left : List (List ℕ)) → is_some (next (value, left)) ≡ fits forms left)
@@ -48,12 +58,14 @@ module _ {A B C : Type 0} (m : Option A) (f : A → Option B) (g : B → Option 
   pub nested : (m >>= f) >>= g ≡ m >>= (λ x. f x >>= g)
   nested = elim m as (λ m. (m >>= f) >>= g ≡ m >>= (λ x. f x >>= g)) [ None ↦ refl | Some x ↦ refl ]
 
-pub ended : {B : Type 0} (value : B) (words : List (List ℕ)) → is_some (end_of words >>= (λ _. Some value)) ≡ fits [] words
+pub ended : {B : Type 0} (value : B) (words : List (List ℕ))
+    → is_some (end_of words >>= (λ _. Some value)) ≡ fits [] words
 unfolding end_of
 ended value [] = refl
 ended value (text ∷ rest) = refl
 
-module _ {A B C : Type 0} (form : Form) (forms : List Form) (reading : List ℕ → Option A) (reads : (text : List ℕ) → is_some (reading text) ≡ is_word form text)
+module _ {A B C : Type 0} (form : Form) (forms : List Form) (reading : List ℕ → Option A)
+    (reads : (text : List ℕ) → is_some (reading text) ≡ is_word form text)
     (must : may_lack form ≡ false)
     (plain : (text : List ℕ) → behind_form form forms text ≡ forms) (inner : A × List (List ℕ) → Option B) (next : B → Option C) where
   pub then_inner : ((value : A) (left : List (List ℕ)) → is_some (inner (value, left) >>= next) ≡ fits forms left)
@@ -65,29 +77,38 @@ module _ {A B C : Type 0} (form : Form) (forms : List Form) (reading : List ℕ 
 -- ---- phrases
 
 module _ {C : Type 0} (forms : List Form) where
-  key_then : (next : Key × List (List ℕ) → Option C) → ((key : Key) (left : List (List ℕ)) → is_some (next (key, left)) ≡ fits forms left)
+  key_then : (next : Key × List (List ℕ) → Option C)
+      → ((key : Key) (left : List (List ℕ)) → is_some (next (key, left)) ≡ fits forms left)
       → (words : List (List ℕ)) → is_some (key_at words >>= next) ≡ fits (Field ∷ Field ∷ Field ∷ forms) words
   unfolding key_at
   key_then next later words =
       then_inner Field (Field ∷ Field ∷ forms) field_at (λ text. refl) refl (λ text. refl) _ next
       (λ client left. then_inner Field (Field ∷ forms) field_at (λ text. refl) refl (λ text. refl) _ next
-      (λ user left. then_inner Field forms field_at (λ text. refl) refl (λ text. refl) _ next (λ privilege left. later _ left) left) left) words
+      (λ user left. then_inner Field forms field_at (λ text. refl) refl (λ text. refl) _ next
+      (λ privilege left. later _ left) left) left) words
 
-  question_then : (next : Question × List (List ℕ) → Option C) → ((question : Question) (left : List (List ℕ)) → is_some (next (question, left)) ≡ fits forms left)
+  question_then : (next : Question × List (List ℕ) → Option C)
+      → ((question : Question) (left : List (List ℕ)) → is_some (next (question, left)) ≡ fits forms left)
       → (words : List (List ℕ)) → is_some (question_at words >>= next) ≡ fits (Name ∷ Name ∷ Name ∷ forms) words
   unfolding question_at
   question_then next later words =
       then_inner Name (Name ∷ Name ∷ forms) name_at (λ text. refl) refl (λ text. refl) _ next
       (λ client left. then_inner Name (Name ∷ forms) name_at (λ text. refl) refl (λ text. refl) _ next
-      (λ user left. then_inner Name forms name_at (λ text. refl) refl (λ text. refl) _ next (λ privilege left. later _ left) left) left) words
+      (λ user left. then_inner Name forms name_at (λ text. refl) refl (λ text. refl) _ next
+      (λ privilege left. later _ left) left) left) words
 
-  filter_then : (next : Filter × List (List ℕ) → Option C) → ((filter : Filter) (left : List (List ℕ)) → is_some (next (filter, left)) ≡ fits forms left)
-      → (words : List (List ℕ)) → is_some (filter_at words >>= next) ≡ fits (FilterField ∷ FilterField ∷ FilterField ∷ forms) words
+  filter_then : (next : Filter × List (List ℕ) → Option C)
+      → ((filter : Filter) (left : List (List ℕ)) → is_some (next (filter, left)) ≡ fits forms left)
+      → (words : List (List ℕ)) → is_some (filter_at words >>= next)
+      ≡ fits (FilterField ∷ FilterField ∷ FilterField ∷ forms) words
   unfolding filter_at
   filter_then next later words =
-      then_inner FilterField (FilterField ∷ FilterField ∷ forms) filter_field_at (λ text. refl) refl (λ text. refl) _ next
-      (λ client left. then_inner FilterField (FilterField ∷ forms) filter_field_at (λ text. refl) refl (λ text. refl) _ next
-      (λ user left. then_inner FilterField forms filter_field_at (λ text. refl) refl (λ text. refl) _ next (λ privilege left. later _ left) left) left) words
+      then_inner FilterField (FilterField ∷ FilterField ∷ forms) filter_field_at (λ text. refl) refl
+      (λ text. refl) _ next
+      (λ client left. then_inner FilterField (FilterField ∷ forms) filter_field_at (λ text. refl) refl
+      (λ text. refl) _ next
+      (λ user left. then_inner FilterField forms filter_field_at (λ text. refl) refl (λ text. refl) _ next
+      (λ privilege left. later _ left) left) left) words
 
 -- `own`, or `admin` and the number of a user
 module _ {C : Type 0} (forms : List Form) (next : Setter × List (List ℕ) → Option C)
@@ -98,11 +119,13 @@ module _ {C : Type 0} (forms : List Form) (next : Setter × List (List ℕ) → 
 
   setter_by : (text : List ℕ) (rest : List (List ℕ)) (own admin : Bool)
       → is_some ((named_by rest own admin >>= (λ named. target_at named.0 named.1)) >>= next)
-      ≡ holds_left (λ left. fits left rest) (cond (is_some (cond own (Some false) (cond admin (Some true) None))) (Some (cond own forms (Uid ∷ forms))) None)
+      ≡ holds_left (λ left. fits left rest)
+      (cond (is_some (cond own (Some false) (cond admin (Some true) None))) (Some (cond own forms (Uid ∷ forms))) None)
   unfolding target_at
   setter_by text rest true admin = later Own rest
   setter_by text rest false true =
-      then_inner Uid forms uid_at (λ text. refl) refl (λ text. refl) _ next (λ target left. later (Administrator target) left) rest
+      then_inner Uid forms uid_at (λ text. refl) refl (λ text. refl) _ next
+      (λ target left. later (Administrator target) left) rest
   setter_by text rest false false = refl
 
   setter_then : (words : List (List ℕ)) → is_some (setter_at words >>= next) ≡ fits (SetterForm ∷ Uid ∷ forms) words
@@ -120,7 +143,8 @@ names_fit (text ∷ words) =
       by_case later true = later
       by_case later false = refl
 
-names_then : {B : Type 0} (next : List (List ℕ) → B) (words : List (List ℕ)) → is_some (names_at words >>= (λ names. Some (next names))) ≡ fits (Names ∷ []) words
+names_then : {B : Type 0} (next : List (List ℕ) → B) (words : List (List ℕ))
+    → is_some (names_at words >>= (λ names. Some (next names))) ≡ fits (Names ∷ []) words
 names_then next words = by_case (list_all is_name words) ∙ sym (names_fit words) where
   by_case : (b : Bool) → is_some (cond b (Some words) None >>= (λ names. Some (next names))) ≡ b
   by_case true = refl
@@ -133,7 +157,8 @@ unfolding set_at
 set_fits words =
     then_word Bucket (Field ∷ Field ∷ Field ∷ Result ∷ []) bucket_at (λ text. refl) refl (λ text. refl) _
     (λ bucket left. key_then (Result ∷ []) _
-    (λ key left. then_word Result [] result_at (λ text. refl) refl (λ text. refl) _ (λ result left. ended _ left) left) left) words
+    (λ key left. then_word Result [] result_at (λ text. refl) refl (λ text. refl) _
+    (λ result left. ended _ left) left) left) words
 
 unset_fits : (words : List (List ℕ)) → is_some (unset_at words) ≡ fits (verb_forms verb.Unset) words
 unfolding unset_at
@@ -145,7 +170,8 @@ bucket_fits : (words : List (List ℕ)) → is_some (set_bucket_at words) ≡ fi
 unfolding set_bucket_at
 bucket_fits words =
     then_word Bucket (Result ∷ []) bucket_at (λ text. refl) refl (λ text. refl) _
-    (λ bucket left. then_word Result [] result_at (λ text. refl) refl (λ text. refl) _ (λ result left. ended _ left) left) words
+    (λ bucket left. then_word Result [] result_at (λ text. refl) refl (λ text. refl) _
+    (λ result left. ended _ left) left) words
 
 drop_fits : (words : List (List ℕ)) → is_some (drop_at words) ≡ fits (verb_forms verb.Drop) words
 unfolding drop_at
@@ -161,13 +187,15 @@ user_fits : (words : List (List ℕ)) → is_some (user_at words) ≡ fits (verb
 unfolding user_at
 user_fits words =
     then_word Uid (UserType ∷ []) uid_at (λ text. refl) refl (λ text. refl) _
-    (λ uid left. then_word UserType [] user_type_at (λ text. refl) refl (λ text. refl) _ (λ kind left. ended _ left) left) words
+    (λ uid left. then_word UserType [] user_type_at (λ text. refl) refl (λ text. refl) _
+    (λ kind left. ended _ left) left) words
 
 nouser_fits : (words : List (List ℕ)) → is_some (nouser_at words) ≡ fits (verb_forms verb.NoUser) words
 unfolding nouser_at
 nouser_fits words = then_word Uid [] uid_at (λ text. refl) refl (λ text. refl) _ (λ uid left. ended _ left) words
 
-install_fits : (hybrid : Bool) (words : List (List ℕ)) → is_some (install_at hybrid words) ≡ fits (verb_forms verb.Install) words
+install_fits : (hybrid : Bool) (words : List (List ℕ))
+    → is_some (install_at hybrid words) ≡ fits (verb_forms verb.Install) words
 unfolding install_at
 install_fits hybrid words =
     then_word Ident (Author ∷ Ident ∷ Scope ∷ Names ∷ []) ident_at (λ text. refl) refl (λ text. refl) _
@@ -180,13 +208,15 @@ convert_fits : (words : List (List ℕ)) → is_some (convert_at words) ≡ fits
 unfolding convert_at
 convert_fits words =
     then_word Ident (PackageKind ∷ []) ident_at (λ text. refl) refl (λ text. refl) _
-    (λ name left. then_word PackageKind [] package_kind_at (λ text. refl) refl (λ text. refl) _ (λ hybrid left. ended _ left) left) words
+    (λ name left. then_word PackageKind [] package_kind_at (λ text. refl) refl (λ text. refl) _
+    (λ hybrid left. ended _ left) left) words
 
 remove_fits : (words : List (List ℕ)) → is_some (remove_at words) ≡ fits (verb_forms verb.Remove) words
 unfolding remove_at
 remove_fits words =
     then_word Ident (Scope ∷ []) ident_at (λ text. refl) refl (λ text. refl) _
-    (λ app left. then_word Scope [] scope_at (λ text. refl) refl (λ text. refl) _ (λ scope left. ended _ left) left) words
+    (λ app left. then_word Scope [] scope_at (λ text. refl) refl (λ text. refl) _
+    (λ scope left. ended _ left) left) words
 
 list_fits : (words : List (List ℕ)) → is_some (list_at words) ≡ fits (verb_forms verb.List) words
 unfolding list_at
@@ -210,7 +240,8 @@ unfolding access_at
 access_fits words =
     then_word Label (Label ∷ Request ∷ []) label_at (λ text. refl) refl (λ text. refl) _
     (λ subject left. then_word Label (Request ∷ []) label_at (λ text. refl) refl (λ text. refl) _
-    (λ object left. then_word Request [] request_at (λ text. refl) refl (λ text. refl) _ (λ asked left. ended _ left) left) left) words
+    (λ object left. then_word Request [] request_at (λ text. refl) refl (λ text. refl) _
+    (λ asked left. ended _ left) left) left) words
 
 level_fits : (words : List (List ℕ)) → is_some (level_line_at words) ≡ fits (verb_forms verb.Level) words
 unfolding level_line_at
@@ -219,7 +250,8 @@ level_fits words =
     (λ caller left. setter_then (Name ∷ Name ∷ LevelForm ∷ []) _
     (λ setter left. then_word Name (Name ∷ LevelForm ∷ []) name_at (λ text. refl) refl (λ text. refl) _
     (λ client left. then_word Name (LevelForm ∷ []) name_at (λ text. refl) refl (λ text. refl) _
-    (λ privilege left. then_word LevelForm [] level_at (λ text. refl) refl (λ text. refl) _ (λ level left. ended _ left) left) left) left) left) words
+    (λ privilege left. then_word LevelForm [] level_at (λ text. refl) refl (λ text. refl) _
+    (λ level left. ended _ left) left) left) left) left) words
 
 levels_fit : (words : List (List ℕ)) → is_some (levels_at words) ≡ fits (verb_forms verb.Levels) words
 unfolding levels_at
@@ -234,14 +266,16 @@ unfolding share_at
 share_fits words =
     then_word Ident (Ident ∷ Ident ∷ []) ident_at (λ text. refl) refl (λ text. refl) _
     (λ owner left. then_word Ident (Ident ∷ []) ident_at (λ text. refl) refl (λ text. refl) _
-    (λ target left. then_word Ident [] ident_at (λ text. refl) refl (λ text. refl) _ (λ name left. ended _ left) left) left) words
+    (λ target left. then_word Ident [] ident_at (λ text. refl) refl (λ text. refl) _
+    (λ name left. ended _ left) left) left) words
 
 unshare_fits : (words : List (List ℕ)) → is_some (unshare_at words) ≡ fits (verb_forms verb.Unshare) words
 unfolding unshare_at
 unshare_fits words =
     then_word Ident (Ident ∷ Ident ∷ []) ident_at (λ text. refl) refl (λ text. refl) _
     (λ owner left. then_word Ident (Ident ∷ []) ident_at (λ text. refl) refl (λ text. refl) _
-    (λ target left. then_word Ident [] ident_at (λ text. refl) refl (λ text. refl) _ (λ name left. ended _ left) left) left) words
+    (λ target left. then_word Ident [] ident_at (λ text. refl) refl (λ text. refl) _
+    (λ name left. ended _ left) left) left) words
 
 shares_fit : (words : List (List ℕ)) → is_some (shares_at words) ≡ fits [] words
 unfolding shares_at

@@ -1,5 +1,6 @@
 -- Names, names of buckets and metadata.
-use Rattle.std.proofs.Common.{◌≡◌, ℕ, Bool, true, false, not, cond, ◌&&◌, ◌||◌, List, [], ◌∷◌, ◌++◌, length, Option, Some, None, refl, sym, ap, ◌∙◌, arith}
+use Rattle.std.proofs.Common.{◌≡◌, ℕ, Bool, true, false, not, cond, ◌&&◌, ◌||◌, List, [], ◌∷◌, ◌++◌, length, Option}
+use Rattle.std.proofs.Common.{Some, None, refl, sym, ap, ◌∙◌, arith}
 use Rattle.std.specs.Prelude.{◌==◌, nat_le, nat_lt, is_none, position}
 use Rattle.std.proofs.lemmas.Bool.{and_parts, and_from, not_from_false, ne_eqb}
 use Rattle.cynara_keys.specs.Text.{is_visible, is_word_byte}
@@ -20,7 +21,8 @@ use Rattle.line_reasons.proofs.Runs.{short_position, Fronts-closed, as_it_is, ru
 -- ---- what the bytes are
 
 name_tests : (empty long : Bool) (bad : Option ℕ) (reserved : Bool)
-    → is_none (cond {A = Option NameRefusal} empty (Some Empty) (cond {A = Option NameRefusal} long (Some TooLong) (bad_byte_or bad (cond reserved (Some Reserved) None))))
+    → is_none (cond {A = Option NameRefusal} empty (Some Empty)
+    (cond {A = Option NameRefusal} long (Some TooLong) (bad_byte_or bad (cond reserved (Some Reserved) None))))
     ≡ not empty && ((not long && is_none bad) && not reserved)
 name_tests true long bad reserved = refl
 name_tests false true bad reserved = refl
@@ -28,13 +30,16 @@ name_tests false false (Some at) reserved = refl
 name_tests false false None true = refl
 name_tests false false None false = refl
 
-pub name_is : (text : List ℕ) → is_name text ≡ not (length text == 0) && (is_run 255 is_visible text && not (is_reserved text))
+pub name_is : (text : List ℕ) → is_name text
+    ≡ not (length text == 0) && (is_run 255 is_visible text && not (is_reserved text))
 name_is text =
-    name_tests (length text == 0) (nat_lt 255 (length text)) (position (λ byte. not (is_visible byte)) text) (is_reserved text)
+    name_tests (length text == 0) (nat_lt 255 (length text)) (position (λ byte. not (is_visible byte)) text)
+    (is_reserved text)
     ∙ ap (λ b. not (length text == 0) && (b && not (is_reserved text))) (short_position 255 is_visible text)
 
 goes_on_tests : (empty long : Bool) (bad : Option ℕ) (reserved : Bool)
-    → may_go_on (cond {A = Option NameRefusal} empty (Some Empty) (cond {A = Option NameRefusal} long (Some TooLong) (bad_byte_or bad (cond reserved (Some Reserved) None))))
+    → may_go_on (cond {A = Option NameRefusal} empty (Some Empty)
+    (cond {A = Option NameRefusal} long (Some TooLong) (bad_byte_or bad (cond reserved (Some Reserved) None))))
     ≡ empty || (not long && is_none bad)
 goes_on_tests true long bad reserved = refl
 goes_on_tests false true bad reserved = refl
@@ -53,33 +58,39 @@ name_goes_on (byte ∷ bytes) =
     ∙ short_position 255 is_visible text)
 
 bucket_tests : (long : Bool) (bad : Option ℕ)
-    → is_none (cond {A = Option BucketNameRefusal} long (Some TooLongBucket) (bad_bucket_byte bad)) ≡ not long && is_none bad
+    → is_none (cond {A = Option BucketNameRefusal} long (Some TooLongBucket) (bad_bucket_byte bad))
+    ≡ not long && is_none bad
 bucket_tests true bad = refl
 bucket_tests false (Some at) = refl
 bucket_tests false None = refl
 
 pub bucket_name_is : (text : List ℕ) → is_bucket_name text ≡ is_run 64 is_word_byte text
 bucket_name_is text =
-    bucket_tests (nat_lt 64 (length text)) (position (λ byte. not (is_word_byte byte)) text) ∙ short_position 64 is_word_byte text
+    bucket_tests (nat_lt 64 (length text)) (position (λ byte. not (is_word_byte byte)) text)
+    ∙ short_position 64 is_word_byte text
 
 metadata_tests : (long : Bool) (bad : Option ℕ)
-    → is_none (cond {A = Option MetadataRefusal} long (Some TooLongMetadata) (bad_metadata_byte bad)) ≡ not long && is_none bad
+    → is_none (cond {A = Option MetadataRefusal} long (Some TooLongMetadata) (bad_metadata_byte bad))
+    ≡ not long && is_none bad
 metadata_tests true bad = refl
 metadata_tests false (Some at) = refl
 metadata_tests false None = refl
 
 pub metadata_is : (text : List ℕ) → is_metadata text ≡ is_run 255 is_visible text
 metadata_is text =
-    metadata_tests (nat_lt 255 (length text)) (position (λ byte. not (is_visible byte)) text) ∙ short_position 255 is_visible text
+    metadata_tests (nat_lt 255 (length text)) (position (λ byte. not (is_visible byte)) text)
+    ∙ short_position 255 is_visible text
 
 -- ---- names
 
 pub name_run : (text : List ℕ) → is_name text ≡ true → is_run 255 is_visible text ≡ true
 name_run text is =
-    let some = and_parts (not (length text == 0)) (is_run 255 is_visible text && not (is_reserved text)) (sym (name_is text) ∙ is) in
+    let some = and_parts (not (length text == 0)) (is_run 255 is_visible text && not (is_reserved text))
+    (sym (name_is text) ∙ is) in
     (and_parts (is_run 255 is_visible text) (not (is_reserved text)) some.1).0
 
-pub name_from : (text : List ℕ) → not (length text == 0) ≡ true → is_run 255 is_visible text ≡ true → is_reserved text ≡ false
+pub name_from : (text : List ℕ) → not (length text == 0) ≡ true → is_run 255 is_visible text ≡ true
+    → is_reserved text ≡ false
     → is_name text ≡ true
 name_from text some run free =
     name_is text ∙ and_from (not (length text == 0)) (is_run 255 is_visible text && not (is_reserved text)) some
@@ -91,7 +102,8 @@ name_on (byte ∷ []) run =
     let both = and_parts (nat_le 1 255) (is_visible byte && true) run in
     (97 ∷ [], name_from (byte ∷ 97 ∷ []) refl both.1 refl)
 name_on (byte ∷ next ∷ bytes) run =
-    as_it_is is_name (λ _. true) (byte ∷ next ∷ bytes) (name_from (byte ∷ next ∷ bytes) (some_bytes byte (next ∷ bytes)) run refl)
+    as_it_is is_name (λ _. true) (byte ∷ next ∷ bytes)
+    (name_from (byte ∷ next ∷ bytes) (some_bytes byte (next ∷ bytes)) run refl)
 
 pub Fronts-name : Fronts is_name (is_run 255 is_visible)
 Fronts-name = Fronts-closed is_name (is_run 255 is_visible) name_run (run-front 255 is_visible) name_on

@@ -1,20 +1,24 @@
 -- Results.
-use Rattle.std.proofs.Common.{◌≡◌, ℕ, ◌+◌, ◌<◌, Bool, true, false, not, cond, ◌&&◌, ◌||◌, List, [], ◌∷◌, ◌++◌, ◌⊎◌, inl, inr, length, take, drop, Option, Some, None, refl, sym, ap, ◌∙◌, append_assoc, arith}
+use Rattle.std.proofs.Common.{◌≡◌, ℕ, ◌+◌, ◌<◌, Bool, true, false, not, cond, ◌&&◌, ◌||◌, List, [], ◌∷◌, ◌++◌, ◌⊎◌, inl}
+use Rattle.std.proofs.Common.{inr, length, take, drop, Option, Some, None, refl, sym, ap, ◌∙◌, append_assoc, arith}
 use Rattle.std.specs.Prelude.{◌==◌, nat_le, nat_lt, is_some, codes, position}
 use Rattle.std.specs.List.{list_all, list_any}
 use Rattle.std.specs.Char.{is_ascii_digit}
-use Rattle.std.proofs.lemmas.Bool.{and_parts, and_from, or_cases, leb-true, le-leb, lt-ltb, eqb-true, ne_eqb, not_from_false, false_from_ne_true}
+use Rattle.std.proofs.lemmas.Bool.{and_parts, and_from, or_cases, leb-true, le-leb, lt-ltb, eqb-true, ne_eqb}
+use Rattle.std.proofs.lemmas.Bool.{not_from_false, false_from_ne_true}
 use Rattle.std.proofs.lemmas.List.Folds.{list_all-append}
 use Rattle.cynara_keys.specs.Text.{same_text, is_visible, is_word_byte}
 use Rattle.cynara_keys.specs.BucketName.{is_bucket_name}
 use Rattle.cynara_keys.specs.Metadata.{is_metadata}
 use Rattle.cynara_keys.specs.PolicyResult.{Ruling, deny, none, bucket, allow, is_agent, may_carry}
 use Rattle.cynara_keys.proofs.Order.{same_text-≡, ≡-same_text}
-use Rattle.line_script.specs.Words.{◌>>=◌}
-use Rattle.line_script.specs.Numbers.{number_of, number_that}
-use Rattle.line_script.specs.WordForms.{bucket_at, ruling_at, bucket_result_at, agent_result_at, behind, carrying_at, result_at}
+use Rattle.script_words.specs.Words.{◌>>=◌}
+use Rattle.script_words.specs.Numbers.{number_of, number_that}
+use Rattle.script_words.specs.WordForms.{bucket_at, ruling_at, bucket_result_at, agent_result_at, behind, carrying_at}
+use Rattle.script_words.specs.WordForms.{result_at}
 use Rattle.line_reasons.specs.parts.Texts.{begins, begins_one, is_behind, begins_behind, cut_at, by_cut}
-use Rattle.line_reasons.specs.parts.Forms.{begins_bucket, begins_kind, begins_number, is_agent_pair, begins_agent, begins_result}
+use Rattle.line_reasons.specs.parts.Forms.{begins_bucket, begins_kind, begins_number, is_agent_pair, begins_agent}
+use Rattle.line_reasons.specs.parts.Forms.{begins_result}
 use Rattle.line_reasons.proofs.Fronts.{Fronts, Fronts-or, Fronts-same, is_dark}
 use Rattle.line_reasons.proofs.TextFronts.{Fronts-texts, Fronts-behind, dark-one, dark-behind}
 use Rattle.line_reasons.proofs.Cuts.{Cut, Fronts-cut, cut_at-first, cut_at-parts, cut_of_place, position-cut}
@@ -63,7 +67,8 @@ Fronts-agent =
     Fronts-cut 58 (λ text. false) begins_kind is_agent_pair is_agent_pair
     (λ kind. metadata_behind (is_some (number_that is_agent kind)))
     (λ front rest is. cc)
-    (λ front more rest is. Fronts-kind.is_front front more (and_parts (is_some (number_that is_agent (front ++ more))) (is_metadata rest) is).0)
+    (λ front more rest is. Fronts-kind.is_front front more
+    (and_parts (is_some (number_that is_agent (front ++ more))) (is_metadata rest) is).0)
     agent_on
 
 carries : (kind : ℕ) (metadata : List ℕ) → is_agent kind ≡ true → may_carry kind metadata ≡ true
@@ -72,9 +77,12 @@ carries kind metadata is =
     let low = leb-true 2 kind range.0 in
     let high = leb-true kind 65533 range.1 in
     let empty = length metadata == 0 in
-    ap (λ b. cond (b || (kind == 1 || kind == 65535)) empty (cond (kind == 65534) (is_bucket_name metadata) true)) (ne_eqb kind 0 (λ same. omega (arith, same, low)))
-    ∙ ap (λ b. cond (b || kind == 65535) empty (cond (kind == 65534) (is_bucket_name metadata) true)) (ne_eqb kind 1 (λ same. omega (arith, same, low)))
-    ∙ ap (λ b. cond b empty (cond (kind == 65534) (is_bucket_name metadata) true)) (ne_eqb kind 65535 (λ same. omega (arith, same, high)))
+    ap (λ b. cond (b || (kind == 1 || kind == 65535)) empty (cond (kind == 65534) (is_bucket_name metadata) true))
+    (ne_eqb kind 0 (λ same. omega (arith, same, low)))
+    ∙ ap (λ b. cond (b || kind == 65535) empty (cond (kind == 65534) (is_bucket_name metadata) true))
+    (ne_eqb kind 1 (λ same. omega (arith, same, low)))
+    ∙ ap (λ b. cond b empty (cond (kind == 65534) (is_bucket_name metadata) true))
+    (ne_eqb kind 65535 (λ same. omega (arith, same, high)))
     ∙ ap (λ b. cond b (is_bucket_name metadata) true) (ne_eqb kind 65534 (λ same. omega (arith, same, high)))
 
 some_ruling : (b : Bool) (ruling : Ruling) → is_some (cond b (Some ruling) None) ≡ b
@@ -91,13 +99,15 @@ ruled : (number : Option ℕ) (metadata : List ℕ)
 ruled None metadata = refl
 ruled (Some number) metadata = by_case (is_agent number) refl where
   by_case : (agent : Bool) → is_agent number ≡ agent
-      → is_some (cond agent (Some number) None >>= (λ kind. ruling_at kind metadata)) ≡ is_some (cond agent (Some number) None) && is_metadata metadata
+      → is_some (cond agent (Some number) None >>= (λ kind. ruling_at kind metadata))
+      ≡ is_some (cond agent (Some number) None) && is_metadata metadata
   by_case false is = refl
   by_case true is =
       some_ruling (is_metadata metadata && may_carry number metadata) (record { kind = number; metadata = metadata })
       ∙ ap (λ b. is_metadata metadata && b) (carries number metadata is) ∙ and_true (is_metadata metadata)
 
-pub agent_is : (text : List ℕ) → is_some (agent_result_at text) ≡ by_cut (λ text. false) is_agent_pair text (cut_at 58 text)
+pub agent_is : (text : List ℕ)
+    → is_some (agent_result_at text) ≡ by_cut (λ text. false) is_agent_pair text (cut_at 58 text)
 unfolding agent_result_at
 agent_is text =
     by_place (position (λ byte. byte == 58) text) ∙ ap (by_cut (λ text. false) is_agent_pair text) (sym (position-cut 58 text)) where
@@ -112,9 +122,11 @@ agent_is text =
 visible_byte : (byte : ℕ) → 32 < byte → byte < 127 → (byte ≡ 59 → ⊥) → is_visible byte ≡ true
 visible_byte byte low high other =
     and_from (nat_lt 32 byte) (nat_lt byte 127 && not (byte == 59)) (lt-ltb 32 byte low)
-    (and_from (nat_lt byte 127) (not (byte == 59)) (lt-ltb byte 127 high) (not_from_false (byte == 59) (ne_eqb byte 59 other)))
+    (and_from (nat_lt byte 127) (not (byte == 59)) (lt-ltb byte 127 high)
+    (not_from_false (byte == 59) (ne_eqb byte 59 other)))
 
-range_visible : (low high byte : ℕ) → 32 < low → high < 127 → (59 < low) ⊎ (high < 59) → nat_le low byte && nat_le byte high ≡ true → is_visible byte ≡ true
+range_visible : (low high byte : ℕ) → 32 < low → high < 127 → (59 < low) ⊎ (high < 59)
+    → nat_le low byte && nat_le byte high ≡ true → is_visible byte ≡ true
 range_visible low high byte above below apart is =
     let both = and_parts (nat_le low byte) (nat_le byte high) is in
     let from = leb-true low byte both.0 in
@@ -168,8 +180,10 @@ bucket_result_is text = by_root (same_text text (codes ".")) where
   by_name false is = refl
 
   by_root : (root : Bool)
-      → is_some (cond {A = Option (List ℕ)} root (Some []) (cond (is_bucket_name text && not (length text == 0)) (Some text) None) >>= (λ name. ruling_at bucket name))
-      ≡ is_some (cond {A = Option (List ℕ)} root (Some []) (cond (is_bucket_name text && not (length text == 0)) (Some text) None))
+      → is_some (cond {A = Option (List ℕ)} root (Some [])
+      (cond (is_bucket_name text && not (length text == 0)) (Some text) None) >>= (λ name. ruling_at bucket name))
+      ≡ is_some (cond {A = Option (List ℕ)} root (Some [])
+      (cond (is_bucket_name text && not (length text == 0)) (Some text) None))
   by_root true = refl
   by_root false = by_name (is_bucket_name text && not (length text == 0)) refl
 
@@ -184,11 +198,13 @@ turned a b = by_case (same_text a b) refl where
       let none : true ≡ false = sym wrong ∙ is in cc))
 
 -- a text does not begin in both ways
-apart : (text : List ℕ) → same_text (take 7 text) (codes "bucket:") ≡ true → same_text (take 6 text) (codes "agent:") ≡ false
+apart : (text : List ℕ) → same_text (take 7 text) (codes "bucket:") ≡ true
+    → same_text (take 6 text) (codes "agent:") ≡ false
 apart [] is = refl
 apart (byte ∷ bytes) is =
     let first = and_parts (byte == 98) (same_text (take 6 bytes) (codes "ucket:")) is in
-    ap (λ b. b && same_text (take 5 bytes) (codes "gent:")) (ne_eqb byte 97 (λ same. omega (arith, same, eqb-true byte 98 first.0)))
+    ap (λ b. b && same_text (take 5 bytes) (codes "gent:"))
+    (ne_eqb byte 97 (λ same. omega (arith, same, eqb-true byte 98 first.0)))
 
 carrying_is : (p q : Bool) (name agent : List ℕ) → (p ≡ true → q ≡ false)
     → is_some (carrying_at (cond p (Some name) None) (cond q (Some agent) None))
@@ -222,24 +238,33 @@ unfolding result_at plain
 result_is text =
     let first = same_text (take 7 text) (codes "bucket:") in
     let second = same_text (take 6 text) (codes "agent:") in
-    chosen (same_text text (codes "deny")) (same_text text (codes "none")) (same_text text (codes "allow")) (plain deny) (plain none) (plain allow)
+    chosen (same_text text (codes "deny")) (same_text text (codes "none")) (same_text text (codes "allow")) (plain deny)
+    (plain none) (plain allow)
     (carrying_at (behind (codes "bucket:") text) (behind (codes "agent:") text))
     ∙ ap (λ b. list_any (same_text text) (codes "deny" ∷ codes "none" ∷ codes "allow" ∷ []) || b)
     (carrying_is first second (drop 7 text) (drop 6 text) (apart text)
-    ∙ ap (λ b. b && is_some (bucket_result_at (drop 7 text)) || second && is_some (agent_result_at (drop 6 text))) (turned (take 7 text) (codes "bucket:"))
-    ∙ ap (λ b. begins (codes "bucket:") text && b || second && is_some (agent_result_at (drop 6 text))) (bucket_result_is (drop 7 text))
-    ∙ ap (λ b. is_behind (codes "bucket:") (λ text. is_some (bucket_at text)) text || b && is_some (agent_result_at (drop 6 text))) (turned (take 6 text) (codes "agent:"))
-    ∙ ap (λ b. is_behind (codes "bucket:") (λ text. is_some (bucket_at text)) text || begins (codes "agent:") text && b) (agent_is (drop 6 text)))
+    ∙ ap (λ b. b && is_some (bucket_result_at (drop 7 text)) || second && is_some (agent_result_at (drop 6 text)))
+    (turned (take 7 text) (codes "bucket:"))
+    ∙ ap (λ b. begins (codes "bucket:") text && b || second && is_some (agent_result_at (drop 6 text)))
+    (bucket_result_is (drop 7 text))
+    ∙ ap (λ b. is_behind (codes "bucket:") (λ text. is_some (bucket_at text)) text || b && is_some
+    (agent_result_at (drop 6 text))) (turned (take 6 text) (codes "agent:"))
+    ∙ ap (λ b. is_behind (codes "bucket:") (λ text. is_some (bucket_at text)) text || begins (codes "agent:") text && b)
+    (agent_is (drop 6 text)))
 
 pub Fronts-result : Fronts (λ text. is_some (result_at text)) begins_result
 Fronts-result =
     let agent = λ (text : List ℕ). by_cut (λ text. false) is_agent_pair text (cut_at 58 text) in
     let fixed = codes "deny" ∷ codes "none" ∷ codes "allow" ∷ [] in
     Fronts-same (λ text. is_some (result_at text))
-    (λ text. list_any (same_text text) fixed || (is_behind (codes "bucket:") (λ text. is_some (bucket_at text)) text || is_behind (codes "agent:") agent text))
+    (λ text. list_any (same_text text) fixed ||
+    (is_behind (codes "bucket:") (λ text. is_some (bucket_at text)) text || is_behind (codes "agent:") agent text))
     begins_result result_is
-    (Fronts-or (λ text. list_any (same_text text) fixed) (λ text. is_behind (codes "bucket:") (λ text. is_some (bucket_at text)) text || is_behind (codes "agent:") agent text)
-    (begins_one fixed) (λ front. begins_behind (codes "bucket:") begins_bucket front || begins_behind (codes "agent:") begins_agent front)
+    (Fronts-or (λ text. list_any (same_text text) fixed)
+    (λ text. is_behind (codes "bucket:") (λ text. is_some (bucket_at text)) text || is_behind
+    (codes "agent:") agent text)
+    (begins_one fixed) (λ front. begins_behind (codes "bucket:") begins_bucket front || begins_behind
+    (codes "agent:") begins_agent front)
     (Fronts-texts fixed)
     (Fronts-or (is_behind (codes "bucket:") (λ text. is_some (bucket_at text))) (is_behind (codes "agent:") agent)
     (begins_behind (codes "bucket:") begins_bucket) (begins_behind (codes "agent:") begins_agent)
@@ -248,7 +273,8 @@ Fronts-result =
 
 agent-dark : (front : List ℕ) → begins_agent front ≡ true → list_all is_dark front ≡ true
 agent-dark front is = by_case (cut_at 58 front) refl is where
-  by_case : (cut : Cut) → cut_at 58 front ≡ cut → by_cut begins_kind is_agent_pair front cut ≡ true → list_all is_dark front ≡ true
+  by_case : (cut : Cut) → cut_at 58 front ≡ cut → by_cut begins_kind is_agent_pair front cut ≡ true
+      → list_all is_dark front ≡ true
   by_case None found is = number-dark 65533 front (and_parts (begins_number 65533 front) _ is).0
   by_case (Some cut) found is =
       let both = and_parts (is_some (number_that is_agent cut.0)) (is_metadata cut.1) is in

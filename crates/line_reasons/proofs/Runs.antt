@@ -1,8 +1,10 @@
 -- Words of bytes that pass a test, as short as a limit says.
-use Rattle.std.proofs.Common.{◌≡◌, ℕ, ◌+◌, suc, Bool, true, false, not, cond, ◌&&◌, ltb, List, [], ◌∷◌, ◌++◌, length, Some, None, refl, sym, ap, ◌∙◌, append-nil, arith, length-append}
+use Rattle.std.proofs.Common.{◌≡◌, ℕ, ◌+◌, suc, Bool, true, false, not, cond, ◌&&◌, ltb, List, [], ◌∷◌, ◌++◌, length}
+use Rattle.std.proofs.Common.{Some, None, refl, sym, ap, ◌∙◌, append-nil, arith, length-append}
 use Rattle.std.specs.Prelude.{◌==◌, nat_le, nat_lt, is_none, position}
 use Rattle.std.specs.List.{list_all, position_or_len}
-use Rattle.std.proofs.lemmas.Bool.{and_parts, and_from, ltb-true, ltb-false, lt-ltb, le-ltb, leb-true, le-leb, lt-leb, ne_eqb, not_from_false, not_from_true}
+use Rattle.std.proofs.lemmas.Bool.{and_parts, and_from, ltb-true, ltb-false, lt-ltb, le-ltb, leb-true, le-leb, lt-leb}
+use Rattle.std.proofs.lemmas.Bool.{ne_eqb, not_from_false, not_from_true}
 use Rattle.std.proofs.lemmas.List.Folds.{list_all-append}
 use Rattle.line_reasons.specs.parts.Texts.{is_run}
 use Rattle.line_reasons.proofs.Fronts.{Fronts, is_dark}
@@ -26,16 +28,22 @@ none_of-cond true x = refl
 none_of-cond false x = refl
 
 module _ (test : ℕ → Bool) where
-  all_before : (text : List ℕ) → list_all test text ≡ not (ltb (position_or_len (λ byte. not (test byte)) text) (length text))
+  all_before : (text : List ℕ) → list_all test text
+      ≡ not (ltb (position_or_len (λ byte. not (test byte)) text) (length text))
   all_before [] = refl
   all_before (byte ∷ bytes) = by_byte (all_before bytes) (test byte) where
-    by_byte : list_all test bytes ≡ not (ltb (position_or_len (λ byte. not (test byte)) bytes) (length bytes)) → (passes : Bool)
-        → passes && list_all test bytes ≡ not (ltb (cond (not (not passes)) (1 + position_or_len (λ byte. not (test byte)) bytes) 0) (suc (length bytes)))
-    by_byte later true = later ∙ ap not (sym (past_one (position_or_len (λ byte. not (test byte)) bytes) (length bytes)))
+    by_byte : list_all test bytes ≡ not (ltb (position_or_len (λ byte. not (test byte)) bytes) (length bytes))
+        → (passes : Bool)
+        → passes && list_all test bytes
+        ≡ not (ltb (cond (not (not passes)) (1 + position_or_len (λ byte. not (test byte)) bytes) 0)
+        (suc (length bytes)))
+    by_byte later true = later ∙ ap not
+        (sym (past_one (position_or_len (λ byte. not (test byte)) bytes) (length bytes)))
     by_byte later false = sym (not_from_true _ (lt-ltb 0 (suc (length bytes)) (omega arith)))
 
   pub all_position : (text : List ℕ) → is_none (position (λ byte. not (test byte)) text) ≡ list_all test text
-  all_position text = none_of-cond (ltb (position_or_len (λ byte. not (test byte)) text) (length text)) _ ∙ sym (all_before text)
+  all_position text = none_of-cond (ltb (position_or_len (λ byte. not (test byte)) text) (length text)) _
+      ∙ sym (all_before text)
 
 pub short_position : (most : ℕ) (test : ℕ → Bool) (text : List ℕ)
     → not (nat_lt most (length text)) && is_none (position (λ byte. not (test byte)) text) ≡ is_run most test text
@@ -77,7 +85,8 @@ dark_all test above (byte ∷ bytes) is =
 
 pub dark_run : (most : ℕ) (test : ℕ → Bool) → ((byte : ℕ) → test byte ≡ true → is_dark byte ≡ true) → (text : List ℕ)
     → is_run most test text ≡ true → list_all is_dark text ≡ true
-dark_run most test above text is = dark_all test above text (and_parts (nat_le (length text) most) (list_all test text) is).1
+dark_run most test above text is = dark_all test above text
+    (and_parts (nat_le (length text) most) (list_all test text) is).1
 
 -- a list with an element is not empty
 pub some_bytes : (byte : ℕ) (bytes : List ℕ) → not (length (byte ∷ bytes) == 0) ≡ true

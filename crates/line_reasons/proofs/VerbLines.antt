@@ -1,21 +1,24 @@
 -- Lines with a first word of their own.
-use Rattle.std.proofs.Common.{◌≡◌, ℕ, Bool, true, false, not, cond, ◌&&◌, ◌||◌, List, [], ◌∷◌, ◌++◌, ◌⊎◌, inl, inr, length, drop, Option, Some, None, refl, sym, ap, subst, ◌∙◌, append_assoc}
+use Rattle.std.proofs.Common.{◌≡◌, ℕ, Bool, true, false, not, cond, ◌&&◌, ◌||◌, List, [], ◌∷◌, ◌++◌, ◌⊎◌, inl, inr}
+use Rattle.std.proofs.Common.{length, drop, Option, Some, None, refl, sym, ap, subst, ◌∙◌, append_assoc}
 use Rattle.std.specs.Prelude.{◌==◌, is_some, option_map, find}
 use Rattle.std.specs.List.{list_all, list_any, slice_split}
 use Rattle.std.proofs.lemmas.Bool.{and_parts, and_from, or_cases, or_left, or_right}
 use Rattle.cynara_keys.specs.Text.{same_text}
 use Rattle.cynara_keys.proofs.Order.{same_text-≡}
-use Rattle.line_script.specs.Words.{words_of, word, ◌>>=◌}
+use Rattle.script_words.specs.Words.{words_of, word, ◌>>=◌}
 use Rattle.line_script.specs.Grammar.{change_at, line_at, lone_change, lone_step}
-use Rattle.line_script.specs.Verbs.{verb_text, verbs, verb_at, is_known_in}
-use Rattle.line_script.specs.declared.places.Place.{Place}
+use Rattle.script_words.specs.Verbs.{verb_text, verbs, verb_at, is_known_in}
+use Rattle.script_words.specs.declared.places.Place.{Place}
 use Rattle.line_script.specs.declared.steps.Step.{Step}
-use Rattle.line_script.specs.declared.verbs.Verb.{Verb}
-use Rattle.line_script.specs.declared.verbs.Verb.TheVariants as verb
+use Rattle.script_words.specs.declared.verbs.Verb.{Verb}
+use Rattle.script_words.specs.declared.verbs.Verb.TheVariants as verb
 use Rattle.line_reasons.specs.declared.forms.Form.{Form}
 use Rattle.line_reasons.specs.parts.Texts.{begins, cut_at, by_cut}
 use Rattle.line_reasons.specs.parts.Runs.{may_end, may_end_with, is_line_of, begins_line_of}
-use Rattle.line_reasons.specs.parts.Grounds.{verb_forms, changes_policies, is_verb_in, forms_if, forms_of, is_line_with, begins_line_with, is_verb_alone, is_verb_with, is_verb_line, begins_verb, begins_verb_with, begins_verb_line}
+use Rattle.line_reasons.specs.parts.Grounds.{verb_forms, changes_policies, is_verb_in, forms_if, forms_of, is_line_with}
+use Rattle.line_reasons.specs.parts.Grounds.{begins_line_with, is_verb_alone, is_verb_with, is_verb_line, begins_verb}
+use Rattle.line_reasons.specs.parts.Grounds.{begins_verb_with, begins_verb_line}
 use Rattle.line_reasons.proofs.Fronts.{Fronts}
 use Rattle.line_reasons.proofs.TextFronts.{begins-parts, begins-from}
 use Rattle.line_reasons.proofs.Cuts.{Cut, Fronts-cut, cut_at-none, cut_at-first, parts_of_cut, slice_split-cut}
@@ -29,7 +32,8 @@ module _ {X : Type 0} (p q : X → Bool) where
   pub find_any : (xs : List X) (x : X) → find p xs ≡ Some x → (p x ≡ true → q x ≡ true) → list_any q xs ≡ true
   find_any [] x is passes = cc
   find_any (y ∷ xs) x is passes = by_case (λ later. find_any xs x later passes) (p y) refl is where
-    by_case : (find p xs ≡ Some x → list_any q xs ≡ true) → (b : Bool) → p y ≡ b → cond b (Some y) (find p xs) ≡ Some x → q y || list_any q xs ≡ true
+    by_case : (find p xs ≡ Some x → list_any q xs ≡ true) → (b : Bool) → p y ≡ b → cond b (Some y) (find p xs) ≡ Some x
+        → q y || list_any q xs ≡ true
     by_case later true same is =
         let here : y ≡ x = cc in
         let Passes : X → Type 0 = λ y. p y ≡ true in
@@ -135,7 +139,8 @@ module _ (outside : Option Place) where
   unfolding verb_at
   begun_by front more None is test passes = cc
   begun_by front more (Some verb) is test passes =
-      find_any (λ verb. same_text (front ++ more) (verb_text verb)) (λ verb. is_verb_in outside verb && begins front (verb_text verb)) verbs verb is
+      find_any (λ verb. same_text (front ++ more) (verb_text verb))
+      (λ verb. is_verb_in outside verb && begins front (verb_text verb)) verbs verb is
       (λ same. and_from (is_verb_in outside verb) (begins front (verb_text verb))
       (known_in verb (is_verb_in outside verb) refl test passes)
       (begins-from front (verb_text verb) more (sym (same_text-≡ (front ++ more) (verb_text verb) same))))
@@ -144,7 +149,8 @@ module _ (outside : Option Place) where
   as_left None = refl
   as_left (Some forms) = refl
 
-  as_line : (forms : Option (List Form)) (rest : List ℕ) → is_line_with forms rest ≡ holds_left (λ forms. is_line_of false forms rest) forms
+  as_line : (forms : Option (List Form)) (rest : List ℕ)
+      → is_line_with forms rest ≡ holds_left (λ forms. is_line_of false forms rest) forms
   as_line None rest = refl
   as_line (Some forms) rest = refl
 
@@ -152,14 +158,17 @@ module _ (outside : Option Place) where
   with_fronts None = record { rest_of = λ front is. cc; is_front = λ front rest is. cc }
   with_fronts (Some forms) = line_fronts false forms
 
-  whole_verb : (verb : Verb) → is_verb_in outside verb ≡ true → forms_of outside (verb_at (verb_text verb)) ≡ Some (verb_forms verb)
+  whole_verb : (verb : Verb) → is_verb_in outside verb ≡ true
+      → forms_of outside (verb_at (verb_text verb)) ≡ Some (verb_forms verb)
   whole_verb verb is =
       ap (forms_of outside) (own_text verb) ∙ ap (λ known. forms_if known (verb_forms verb)) is
 
   Goes : List ℕ → Type 0
-  Goes front = (rest : List ℕ) × (by_cut (is_verb_alone outside) (is_verb_with outside) (front ++ rest) (cut_at 32 (front ++ rest)) ≡ true)
+  Goes front = (rest : List ℕ) × (by_cut (is_verb_alone outside) (is_verb_with outside) (front ++ rest)
+      (cut_at 32 (front ++ rest)) ≡ true)
 
-  on_verb : (front : List ℕ) (verb : Verb) → is_verb_in outside verb ≡ true → begins front (verb_text verb) ≡ true → Goes front
+  on_verb : (front : List ℕ) (verb : Verb) → is_verb_in outside verb ≡ true → begins front (verb_text verb) ≡ true
+      → Goes front
   unfolding Goes
   on_verb front verb known begun =
       let left = drop (length front) (verb_text verb) in
@@ -168,7 +177,8 @@ module _ (outside : Option Place) where
         | inl ends ↦ (
           left,
           ap (λ line. by_cut (is_verb_alone outside) (is_verb_with outside) line (cut_at 32 line)) whole
-              ∙ ap (by_cut (is_verb_alone outside) (is_verb_with outside) (verb_text verb)) (cut_at-none 32 (verb_text verb) (no_space verb))
+              ∙ ap (by_cut (is_verb_alone outside) (is_verb_with outside) (verb_text verb))
+              (cut_at-none 32 (verb_text verb) (no_space verb))
               ∙ ap may_end_with (whole_verb verb known) ∙ ends,
         )
         | inr more ↦ (let found = (line_fronts false (verb_forms verb)).rest_of [] more in (
@@ -186,11 +196,13 @@ module _ (outside : Option Place) where
   verb_fronts =
       Fronts-cut 32 (is_verb_alone outside) (begins_verb outside) (is_verb_with outside) (begins_verb_with outside)
       (λ first. with_fronts (forms_of outside (verb_at first)))
-      (λ front rest is. begun_by front rest (verb_at (front ++ rest)) refl may_end (sym (as_left (forms_of outside (verb_at (front ++ rest)))) ∙ is))
+      (λ front rest is. begun_by front rest (verb_at (front ++ rest)) refl may_end
+      (sym (as_left (forms_of outside (verb_at (front ++ rest)))) ∙ is))
       (λ front more rest is. begun_by front more (verb_at (front ++ more)) refl (λ forms. is_line_of false forms rest)
       (sym (as_line (forms_of outside (verb_at (front ++ more))) rest) ∙ is))
       (λ front none is.
-      let found = any_found (λ verb. true) (λ verb. is_verb_in outside verb && begins front (verb_text verb)) verbs is in
+      let found = any_found (λ verb. true)
+      (λ verb. is_verb_in outside verb && begins front (verb_text verb)) verbs is in
       let both = and_parts (is_verb_in outside found.0) (begins front (verb_text found.0)) found.1 in
       on_verb front found.0 both.0 both.1)
 
@@ -202,11 +214,13 @@ with_words found rest = option_map (λ verb. (verb, rest)) found
 
 -- the line with its words, if its first word is known
 with_known : (known : Bool) (verb : Verb) (words : List (List ℕ))
-    → is_some (cond known (line_at verb words) None) ≡ holds_left (λ forms. fits forms words) (forms_if known (verb_forms verb))
+    → is_some (cond known (line_at verb words) None)
+    ≡ holds_left (λ forms. fits forms words) (forms_if known (verb_forms verb))
 with_known true verb words = line_fits verb words
 with_known false verb words = refl
 
-by_forms : (rest : List ℕ) (forms : Option (List Form)) → holds_left (λ forms. fits forms (words_of rest)) forms ≡ is_line_with forms rest
+by_forms : (rest : List ℕ) (forms : Option (List Form))
+    → holds_left (λ forms. fits forms (words_of rest)) forms ≡ is_line_with forms rest
 by_forms rest None = refl
 by_forms rest (Some forms) = sym (script_words forms rest)
 
@@ -219,15 +233,19 @@ module _ (place : Place) where
       → is_some (word verb_at (parts_of_cut (slice_split (λ byte. byte == 32)) line cut) >>= step_behind)
       ≡ by_cut (is_verb_alone (Some place)) (is_verb_with (Some place)) line cut
   step_cut line None = by_verb (verb_at line) where
-    by_verb : (found : Option Verb) → is_some (with_words found [] >>= step_behind) ≡ may_end_with (forms_of (Some place) found)
+    by_verb : (found : Option Verb)
+        → is_some (with_words found [] >>= step_behind) ≡ may_end_with (forms_of (Some place) found)
     by_verb None = refl
     by_verb (Some verb) =
-        with_known (is_known_in place verb) verb [] ∙ sym (as_left (Some place) (forms_if (is_known_in place verb) (verb_forms verb)))
+        with_known (is_known_in place verb) verb []
+        ∙ sym (as_left (Some place) (forms_if (is_known_in place verb) (verb_forms verb)))
   step_cut line (Some cut) = by_verb (verb_at cut.0) where
-    by_verb : (found : Option Verb) → is_some (with_words found (words_of cut.1) >>= step_behind) ≡ is_line_with (forms_of (Some place) found) cut.1
+    by_verb : (found : Option Verb)
+        → is_some (with_words found (words_of cut.1) >>= step_behind) ≡ is_line_with (forms_of (Some place) found) cut.1
     by_verb None = refl
     by_verb (Some verb) =
-        with_known (is_known_in place verb) verb (words_of cut.1) ∙ by_forms cut.1 (forms_if (is_known_in place verb) (verb_forms verb))
+        with_known (is_known_in place verb) verb (words_of cut.1)
+        ∙ by_forms cut.1 (forms_if (is_known_in place verb) (verb_forms verb))
 
   pub step_is : (line : List ℕ) → is_some (lone_step place line) ≡ is_verb_line (Some place) line
   unfolding lone_step
@@ -236,16 +254,22 @@ module _ (place : Place) where
       ∙ step_cut line (cut_at 32 line)
 
 change_cut : (line : List ℕ) (cut : Cut)
-    → is_some (word verb_at (parts_of_cut (slice_split (λ byte. byte == 32)) line cut) >>= (λ first. change_at first.0 first.1))
+    → is_some (word verb_at (parts_of_cut (slice_split (λ byte. byte == 32)) line cut) >>=
+    (λ first. change_at first.0 first.1))
     ≡ by_cut (is_verb_alone None) (is_verb_with None) line cut
 change_cut line None = by_verb (verb_at line) where
-  by_verb : (found : Option Verb) → is_some (with_words found [] >>= (λ first. change_at first.0 first.1)) ≡ may_end_with (forms_of None found)
+  by_verb : (found : Option Verb)
+      → is_some (with_words found [] >>= (λ first. change_at first.0 first.1)) ≡ may_end_with (forms_of None found)
   by_verb None = refl
   by_verb (Some verb) = change_fits verb [] ∙ sym (as_left None (forms_if (changes_policies verb) (verb_forms verb)))
 change_cut line (Some cut) = by_verb (verb_at cut.0) where
-  by_verb : (found : Option Verb) → is_some (with_words found (words_of cut.1) >>= (λ first. change_at first.0 first.1)) ≡ is_line_with (forms_of None found) cut.1
+  by_verb : (found : Option Verb)
+      → is_some (with_words found (words_of cut.1) >>= (λ first. change_at first.0 first.1))
+      ≡ is_line_with (forms_of None found) cut.1
   by_verb None = refl
-  by_verb (Some verb) = change_fits verb (words_of cut.1) ∙ by_forms cut.1 (forms_if (changes_policies verb) (verb_forms verb))
+  by_verb (Some verb) =
+      change_fits verb (words_of cut.1)
+      ∙ by_forms cut.1 (forms_if (changes_policies verb) (verb_forms verb))
 
 pub change_is : (line : List ℕ) → is_some (lone_change line) ≡ is_verb_line None line
 unfolding lone_change

@@ -1,13 +1,18 @@
 -- A front of a line of words goes on to a line.
-use Rattle.std.proofs.Common.{◌≡◌, ℕ, Bool, true, false, cond, ◌||◌, List, [], ◌∷◌, ◌++◌, Option, Some, None, inl, inr, refl, sym, ap, subst, ◌∙◌, append_assoc, append-nil, arith}
+use Rattle.std.proofs.Common.{◌≡◌, ℕ, Bool, true, false, cond, ◌||◌, List, [], ◌∷◌, ◌++◌, Option, Some, None, inl, inr}
+use Rattle.std.proofs.Common.{refl, sym, ap, subst, ◌∙◌, append_assoc, append-nil, arith}
 use Rattle.std.specs.Prelude.{option_and_then}
 use Rattle.std.specs.List.{list_all}
 use Rattle.std.proofs.lemmas.Bool.{or_cases, or_right, and_parts, true_from_ne_false, ltb-true, ne_eqb}
 use Rattle.std.proofs.lemmas.List.Folds.{list_all-append}
 use Rattle.line_reasons.specs.declared.forms.Form.{Form}
-use Rattle.line_reasons.specs.declared.forms.Form.TheVariants.{Bucket, Field, Name, Names, FilterField, Depth, Result, Uid, UserType, Scope, PackageKind, Setter, Level, Ident, Author, Label, Request, TemplateLabel, Modes, MoreModes}
+use Rattle.line_reasons.specs.declared.forms.Form.TheVariants.{Bucket, Field, Name, Names, FilterField, Depth, Result}
+use Rattle.line_reasons.specs.declared.forms.Form.TheVariants.{Uid, UserType, Scope, PackageKind, Setter, Level, Ident}
+use Rattle.line_reasons.specs.declared.forms.Form.TheVariants.{Author, Label, Request, TemplateLabel, Modes, MoreModes}
 use Rattle.line_reasons.specs.parts.Forms.{is_word, may_lack, repeats, leaves_out}
-use Rattle.line_reasons.specs.parts.Runs.{parts_words, is_gap, without_first, behind_form, behind_word, behind_part, Stand, stand, with_byte, run, may_end_with, ends_at, begins_at, goes_on_at, holds_at, is_line_of, begins_line_of}
+use Rattle.line_reasons.specs.parts.Runs.{parts_words, is_gap, without_first, behind_form, behind_word, behind_part}
+use Rattle.line_reasons.specs.parts.Runs.{Stand, stand, with_byte, run, may_end_with, ends_at, begins_at, goes_on_at}
+use Rattle.line_reasons.specs.parts.Runs.{holds_at, is_line_of, begins_line_of}
 use Rattle.line_reasons.proofs.Fronts.{Fronts, is_dark}
 use Rattle.line_reasons.proofs.WordFronts.{form_fronts}
 
@@ -57,7 +62,8 @@ run-dark blanks forms part [] dark = ap (λ part. Some (stand forms part)) (sym 
 run-dark blanks forms part (byte ∷ bytes) dark =
     let both = and_parts (is_dark byte) (list_all is_dark bytes) dark in
     let more : Option Stand = option_and_then (λ left. Some (stand left [])) (behind_part blanks forms part) in
-    ap (λ b. option_and_then (λ next. run blanks next bytes) (cond b more (Some (stand forms (part ++ byte ∷ []))))) (dark_byte blanks byte both.0)
+    ap (λ b. option_and_then (λ next. run blanks next bytes) (cond b more (Some (stand forms (part ++ byte ∷ [])))))
+    (dark_byte blanks byte both.0)
     ∙ run-dark blanks forms (part ++ byte ∷ []) bytes both.1
     ∙ ap (λ part. Some (stand forms part)) (append_assoc part (byte ∷ []) bytes)
 
@@ -73,18 +79,21 @@ behind_word-begins : (forms : List Form) (part : List ℕ) (left : List Form) �
 behind_word-begins [] part left is = cc
 behind_word-begins (form ∷ forms) part left is =
     let Word : List ℕ → Type 0 = λ text. is_word form text ≡ true in
-    let word : is_word form part ≡ true = true_from_ne_false _ (λ wrong. let none = ap (λ b. cond b (Some (behind_form form forms part)) None) wrong in cc) in
+    let word : is_word form part ≡ true = true_from_ne_false _
+    (λ wrong. let none = ap (λ b. cond b (Some (behind_form form forms part)) None) wrong in cc) in
     (form_fronts form).parts.is_front part [] (subst Word (sym (append-nil part)) word)
 
 part-goes_on : (blanks : Bool) (at : Stand) (left : List Form) → behind_part blanks at.forms at.part ≡ Some left
     → goes_on_at blanks at ≡ true
 part-goes_on blanks at left is = by_gap (is_gap blanks at.part) is where
-  by_gap : (gap : Bool) → cond gap (Some at.forms) (behind_word at.forms at.part) ≡ Some left → gap || begins_at at.forms at.part ≡ true
+  by_gap : (gap : Bool) → cond gap (Some at.forms) (behind_word at.forms at.part) ≡ Some left
+      → gap || begins_at at.forms at.part ≡ true
   by_gap true is = refl
   by_gap false is = behind_word-begins at.forms at.part left is
 
 -- a front of a front
-begins_at-front : (forms : List Form) (part more : List ℕ) → begins_at forms (part ++ more) ≡ true → begins_at forms part ≡ true
+begins_at-front : (forms : List Form) (part more : List ℕ) → begins_at forms (part ++ more) ≡ true
+    → begins_at forms part ≡ true
 begins_at-front [] part more is = cc
 begins_at-front (form ∷ forms) part more is =
     let found = (form_fronts form).parts.rest_of (part ++ more) is in
@@ -98,7 +107,8 @@ ends-goes_on blanks at (Some left) is ends = part-goes_on blanks at left is
 
 module _ (blanks : Bool) (at : Stand) (byte : ℕ) (bytes : List ℕ) where
   back-parted : (left : Option (List Form)) → behind_part blanks at.forms at.part ≡ left
-      → holds_at (ends_at blanks) (option_and_then (λ next. run blanks next bytes) (option_and_then (λ left. Some (stand left [])) left)) ≡ true
+      → holds_at (ends_at blanks) (option_and_then (λ next. run blanks next bytes)
+      (option_and_then (λ left. Some (stand left [])) left)) ≡ true
       → goes_on_at blanks at ≡ true
   back-parted None found is = cc
   back-parted (Some left) found is = part-goes_on blanks at left found
@@ -107,13 +117,15 @@ module _ (blanks : Bool) (at : Stand) (byte : ℕ) (bytes : List ℕ) where
   back-joined is =
       let longer : begins_at at.forms (at.part ++ byte ∷ []) ≡ true =
       sym (ap (λ gap. gap || begins_at at.forms (at.part ++ byte ∷ [])) (gap_of-append blanks at.part byte)) ∙ is in
-      or_right (is_gap blanks at.part) (begins_at at.forms at.part) (begins_at-front at.forms at.part (byte ∷ []) longer)
+      or_right (is_gap blanks at.part) (begins_at at.forms at.part)
+      (begins_at-front at.forms at.part (byte ∷ []) longer)
 
   back-byte : (holds_at (ends_at blanks) (run blanks (stand at.forms (at.part ++ byte ∷ [])) bytes) ≡ true
       → goes_on_at blanks (stand at.forms (at.part ++ byte ∷ [])) ≡ true)
       → (parts : Bool)
       → holds_at (ends_at blanks) (option_and_then (λ next. run blanks next bytes)
-      (cond parts (option_and_then (λ left. Some (stand left [])) (behind_part blanks at.forms at.part)) (Some (stand at.forms (at.part ++ byte ∷ [])))))
+      (cond parts (option_and_then (λ left. Some (stand left [])) (behind_part blanks at.forms at.part))
+      (Some (stand at.forms (at.part ++ byte ∷ [])))))
       ≡ true → goes_on_at blanks at ≡ true
   back-byte later true is = back-parted (behind_part blanks at.forms at.part) refl is
   back-byte later false is = back-joined (later is)
@@ -123,7 +135,8 @@ back : (blanks : Bool) (at : Stand) (rest : List ℕ) → holds_at (ends_at blan
     → goes_on_at blanks at ≡ true
 back blanks at [] is = ends-goes_on blanks at (behind_part blanks at.forms at.part) refl is
 back blanks at (byte ∷ bytes) is =
-    back-byte blanks at byte bytes (λ is. back blanks (stand at.forms (at.part ++ byte ∷ [])) bytes is) (parts_words blanks byte) is
+    back-byte blanks at byte bytes (λ is. back blanks (stand at.forms (at.part ++ byte ∷ [])) bytes is)
+    (parts_words blanks byte) is
 
 -- ---- from a front on to a line
 
@@ -158,7 +171,8 @@ dark_behind part word dark =
 
 -- a word that is done, and the tail behind it
 with_tail : (blanks : Bool) (form : Form) (forms : List Form) (part word : List ℕ) → is_word form (part ++ word) ≡ true
-    → (tail : List ℕ) → ((at : Stand) → behind_part blanks at.forms at.part ≡ Some (behind_form form forms (part ++ word))
+    → (tail : List ℕ) → ((at : Stand) → behind_part blanks at.forms at.part ≡ Some
+    (behind_form form forms (part ++ word))
     → holds_at (ends_at blanks) (run blanks at tail) ≡ true)
     → holds_at (ends_at blanks) (run blanks (stand (form ∷ forms) part) (word ++ tail)) ≡ true
 with_tail blanks form forms part word is tail ends =
@@ -168,24 +182,29 @@ with_tail blanks form forms part word is tail ends =
     ∙ ends (stand (form ∷ forms) (part ++ word)) (behind_part-word blanks form forms (part ++ word) is)
 
 -- behind a part that is done, a space and a word
-spaced : (blanks : Bool) (at : Stand) (forms : List Form) (bytes : List ℕ) → behind_part blanks at.forms at.part ≡ Some forms
+spaced : (blanks : Bool) (at : Stand) (forms : List Form) (bytes : List ℕ)
+    → behind_part blanks at.forms at.part ≡ Some forms
     → run blanks at (32 ∷ bytes) ≡ run blanks (stand forms []) bytes
 spaced blanks at forms bytes found =
     let joined : Option Stand = Some (stand at.forms (at.part ++ 32 ∷ [])) in
     ap (λ b. option_and_then (λ next. run blanks next bytes)
-    (cond b (option_and_then (λ left. Some (stand left [])) (behind_part blanks at.forms at.part)) joined)) (space_parts blanks)
-    ∙ ap (λ left. option_and_then (λ next. run blanks next bytes) (option_and_then (λ left. Some (stand left [])) left)) found
+    (cond b (option_and_then (λ left. Some (stand left [])) (behind_part blanks at.forms at.part)) joined))
+    (space_parts blanks)
+    ∙ ap (λ left. option_and_then (λ next. run blanks next bytes)
+    (option_and_then (λ left. Some (stand left [])) left)) found
 
 -- behind forms, and behind these without the first
 abbrev Tails : Bool → List Form → Type 0
 Tails blanks forms = Tail blanks forms × Tail blanks (without_first forms)
 
 -- behind the forms that are left, be one of them left out or not
-tail_left : (blanks : Bool) (forms : List Form) (out : Bool) → Tails blanks forms → Tail blanks (cond out (without_first forms) forms)
+tail_left : (blanks : Bool) (forms : List Form) (out : Bool) → Tails blanks forms
+    → Tail blanks (cond out (without_first forms) forms)
 tail_left blanks forms true tails = tails.1
 tail_left blanks forms false tails = tails.0
 
-tail_behind : (blanks : Bool) (form : Form) (forms : List Form) → (lacks : Bool) → may_lack form ≡ lacks → Tails blanks forms
+tail_behind : (blanks : Bool) (form : Form) (forms : List Form) → (lacks : Bool) → may_lack form ≡ lacks
+    → Tails blanks forms
     → Tail blanks (form ∷ forms)
 unfolding Tail
 tail_behind blanks form forms true is tails = ([], λ at found. ap may_end_with found ∙ is)
@@ -216,7 +235,8 @@ tail_of blanks forms = (tails_of blanks forms).0
 Rest : Bool → Stand → Type 0
 Rest blanks at = (rest : List ℕ) × (holds_at (ends_at blanks) (run blanks at rest) ≡ true)
 
-on_word : (blanks : Bool) (forms : List Form) (part : List ℕ) → begins_at forms part ≡ true → Rest blanks (stand forms part)
+on_word : (blanks : Bool) (forms : List Form) (part : List ℕ) → begins_at forms part ≡ true
+    → Rest blanks (stand forms part)
 unfolding Rest Tail
 on_word blanks [] part is = cc
 on_word blanks (form ∷ forms) part is =
@@ -224,7 +244,8 @@ on_word blanks (form ∷ forms) part is =
     let tail = tail_of blanks (behind_form form forms (part ++ word.0)) in
     (word.0 ++ tail.0, with_tail blanks form forms part word.0 word.1 tail.0 tail.1)
 
-on_gap : (blanks : Bool) (forms : List Form) (part : List ℕ) → is_gap blanks part ≡ true → Rest blanks (stand forms part)
+on_gap : (blanks : Bool) (forms : List Form) (part : List ℕ) → is_gap blanks part ≡ true
+    → Rest blanks (stand forms part)
 unfolding Rest Tail
 on_gap blanks forms part is =
     let tail = tail_of blanks forms in
@@ -239,7 +260,8 @@ on blanks at is = elim (or_cases (is_gap blanks at.part) (begins_at at.forms at.
 -- ---- both
 
 module _ (blanks : Bool) where
-  front_from : (at : Option Stand) (rest : List ℕ) → holds_at (ends_at blanks) (option_and_then (λ at. run blanks at rest) at) ≡ true
+  front_from : (at : Option Stand) (rest : List ℕ)
+      → holds_at (ends_at blanks) (option_and_then (λ at. run blanks at rest) at) ≡ true
       → holds_at (goes_on_at blanks) at ≡ true
   front_from None rest is = cc
   front_from (Some at) rest is = back blanks at rest is

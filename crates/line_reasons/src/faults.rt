@@ -20,10 +20,12 @@ use std::fmt;
 /// The first fault of a line.
 #[derive(Drop)]
 pub struct LineFault {
-    /// How many bytes of the line a known line can begin with: the fault is the byte behind them, or that the line ends.
+    /// How many bytes of the line a known line can begin with: the fault is the byte behind them, or that the line
+    /// ends.
     pub place: usize,
     pub reason: Reason,
-    /// The form of the line, where it is one of a script whose first word is known and the reason is about another word.
+    /// The form of the line, where it is one of a script whose first word is known and the reason is about another
+    /// word.
     pub form: Option<&'static str>,
 }
 
@@ -39,9 +41,9 @@ impl fmt::Display for LineFault {
     }
 }
 
-/// Why a line of a script is outside the grammar, where it stands: the first fault. `None` exactly where it is within. The
-/// limit on a line's length is left to who cuts the lines: a place is told as if a line may be longer.
-/// Fails only for lack of memory, for the bytes that a reason shows.
+/// Why a line of a script is outside the grammar, where it stands: the first fault. `None` exactly where it is within.
+/// The limit on a line's length is left to who cuts the lines: a place is told as if a line may be longer. Fails only
+/// for lack of memory, for the bytes that a reason shows.
 pub fn script_fault(alloc: Global, spot: Spot, line: &[u8]) -> Result<Option<LineFault>, AllocError>
     ensures { (block : Block) → spot_of block ≡ Some spot → Explains (any_length_step_at block) line.now result }
 {

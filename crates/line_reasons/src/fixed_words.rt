@@ -2,7 +2,7 @@
 
 ghost use Rattle.std.specs.Prelude.{◌≡◌, is_some};
 ghost use Rattle.level_requests.specs.Level.{level_at};
-ghost use Rattle.line_script.specs.WordForms.{depth_at, user_type_at, package_kind_at, setter_named};
+ghost use Rattle.script_words.specs.WordForms.{depth_at, user_type_at, package_kind_at, setter_named};
 ghost use Rattle.line_reasons.specs.declared.forms.Form.TheVariants.{Depth, UserType, PackageKind, Setter, Level};
 ghost use Rattle.line_reasons.specs.parts.Forms as forms;
 

@@ -3,7 +3,7 @@
 ghost use Rattle.std.specs.Prelude.{◌≡◌};
 ghost use Rattle.line_reasons.specs.parts.Forms.{may_lack, repeats, leaves_out};
 
-/// What a word of a line must be. The names are those of docs/FORMATS.md.
+/// What a word of a line must be. The names are those of docs/use/REFERENCE.md.
 #[derive(Clone, Copy, Debug, PartialEq, Eq)]
 pub(crate) enum Form {
     /// `.` or the name of a bucket.

@@ -4,7 +4,7 @@ ghost use Rattle.std.specs.Prelude.{◌≡◌, Some, None, MatchOption};
 ghost use Rattle.std.specs.List.{list_all};
 ghost use Rattle.smack_rules.specs.Words.{is_blank};
 ghost use Rattle.line_script.specs.Grammar.{is_skipped};
-ghost use Rattle.line_script.specs.Verbs.{verb_at};
+ghost use Rattle.script_words.specs.Verbs.{verb_at};
 ghost use Rattle.line_reasons.specs.parts.Grounds as grounds;
 
 use crate::forms::Form;

@@ -1,5 +1,5 @@
-//! Why a line was refused: for a line of a script that is outside the grammar, and for a line of a text of Smack rules that is
-//! none, the first fault, with its place and a reason for a person.
+//! Why a line was refused: for a line of a script that is outside the grammar, and for a line of a text of Smack rules
+//! that is none, the first fault, with its place and a reason for a person.
 //!
 //! The place is proved: so many bytes of the line, and no more, are the front of a line that is known where it stands.
 #![tactic(auto)]

@@ -7,8 +7,8 @@ use line_script::{Place, VERBS, Verb};
 /// So many letters of a word are enough to tell which one was meant.
 const FEWEST_LETTERS: usize = 3;
 
-/// The form of a line whose first word is near to this one, if there is one: outside a block in a script for a place, or
-/// within a batch, where no place is given.
+/// The form of a line whose first word is near to this one, if there is one: outside a block in a script for a place,
+/// or within a batch, where no place is given.
 pub(crate) fn near_usage(outside: Option<Place>, word: &[u8]) -> Option<&'static str> {
     if let Some(verb) = VERBS
         .iter()
@@ -31,9 +31,9 @@ fn is_near_verb(outside: Option<Place>, word: &[u8], verb: Verb) -> bool {
     is_verb_in(outside, verb) && is_near(word, verb.text())
 }
 
-/// Whether a person who wrote the word may have meant the known one: it is the same but for capitals; or, where that has three
-/// letters at least, but for one slip besides (a letter that lacks, one too many, another one, or two that are exchanged), or
-/// three letters or more that it begins with.
+/// Whether a person who wrote the word may have meant the known one: it is the same but for capitals; or, where that
+/// has three letters at least, but for one slip besides (a letter that lacks, one too many, another one, or two that
+/// are exchanged), or three letters or more that it begins with.
 pub fn is_near(word: &[u8], known: &[u8]) -> bool {
     let (behind, known_behind) = behind_common_front(word, known);
     if behind.is_empty() && known_behind.is_empty() {

@@ -5,8 +5,8 @@ ghost use Rattle.line_reasons.specs.parts.Grounds.{begins_line};
 
 use crate::grounds::Ground;
 
-/// The most bytes of the line that a known line can begin with. Halves the line again and again, so that a long line costs
-/// no more than a few readings of it.
+/// The most bytes of the line that a known line can begin with. Halves the line again and again, so that a long line
+/// costs no more than a few readings of it.
 pub(crate) fn longest_front(ground: Ground, line: &[u8]) -> usize
     ensures within { result ≤ length line.now }
     ensures begun { begins_line ground (take result line.now) ≡ true }

@@ -2,9 +2,9 @@
 
 use std::fmt;
 
-/// Why a line is outside its grammar, in a person's words: one line of plain ASCII. What it shows of the line is at most 40
-/// bytes, with `\x` and two digits of hexadecimal for a byte that is not printable. The reasons at the end are those of a
-/// whole text.
+/// Why a line is outside its grammar, in a person's words: one line of plain ASCII. What it shows of the line is at
+/// most 40 bytes, with `\x` and two digits of hexadecimal for a byte that is not printable. The reasons at the end are
+/// those of a whole text.
 #[derive(Drop)]
 pub enum Reason {
     CarriageReturn,

@@ -4,9 +4,9 @@ ghost use Rattle.std.specs.Prelude.{◌≡◌, ◌==◌, not, position, codes, S
 ghost use Rattle.cynara_keys.specs.PolicyResult.{is_agent};
 ghost use Rattle.smack_rules.specs.Modes.{stands_in, is_empty, letters_that, modes_of};
 ghost use Rattle.rule_templates.specs.TemplateLine.{word_of};
-ghost use Rattle.line_script.specs.Numbers.{number_that};
-ghost use Rattle.line_script.specs.WordForms.{bucket_at, name_at, field_at, filter_field_at, result_at, uid_at};
-ghost use Rattle.line_script.specs.WordForms.{scope_at, ident_at, author_at, label_at, request_at};
+ghost use Rattle.script_words.specs.Numbers.{number_that};
+ghost use Rattle.script_words.specs.WordForms.{bucket_at, name_at, field_at, filter_field_at, result_at, uid_at};
+ghost use Rattle.script_words.specs.WordForms.{scope_at, ident_at, author_at, label_at, request_at};
 ghost use Rattle.line_reasons.specs.parts.Texts.{begins, cut_at, by_cut};
 ghost use Rattle.line_reasons.specs.parts.Forms as forms;
 
@@ -293,7 +293,8 @@ fn begins_kind(front: &[u8]) -> bool
 
 /// A text cut at the first byte of a value: what stands in front of it, and behind it.
 pub(crate) fn cut_at(text: &[u8], mark: u8) -> Option<(&[u8], &[u8])>
-    ensures { MatchOption result (cut_at mark text.now ≡ None) (λ cut. cut_at mark text.now ≡ Some (cut.0.now, cut.1.now)) }
+    ensures { MatchOption result (cut_at mark text.now ≡ None)
+        (λ cut. cut_at mark text.now ≡ Some (cut.0.now, cut.1.now)) }
 {
     match first_of(text, mark) {
         Some(at) => Some((&text[..at], &text[at + 1..])),

@@ -9,8 +9,8 @@ use desk_ports::shown_bytes;
 use smack_rules::MOST_LABEL_BYTES;
 use std::alloc::{AllocError, Global};
 
-/// Why a word of this form cannot go on: with the byte that comes next, or with its end where a blank or none comes. So much
-/// of the word is right.
+/// Why a word of this form cannot go on: with the byte that comes next, or with its end where a blank or none comes. So
+/// much of the word is right.
 pub(crate) fn word_reason(
     alloc: Global,
     form: Form,

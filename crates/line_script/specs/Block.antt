@@ -2,7 +2,7 @@
 use Rattle.std.specs.Prelude.{List}
 use Rattle.bucket_store.specs.declared.policy_changes.Change.{Change}
 use Rattle.rule_templates.specs.declared.lines.TemplateLine.{TemplateLine}
-use Rattle.line_script.specs.declared.places.Place.{Place}
+use Rattle.script_words.specs.declared.places.Place.{Place}
 
 -- In a script for this place: outside a block, behind these changes of a batch, or behind these lines of a template; or
 -- behind a line that was not read.

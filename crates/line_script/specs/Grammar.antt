@@ -1,12 +1,10 @@
 -- The lines of a script, as one function from the place in the script and the bytes of a line to its step.
-use Rattle.std.specs.Prelude.{ℕ, Bool, true, false, nat_le, ◌==◌, if◌then◌else◌, List, [], ◌∷◌, ◌++◌, length, Option, Some, None, option_map, codes}
+use Rattle.std.specs.Prelude.{ℕ, Bool, true, false, nat_le, ◌==◌, if◌then◌else◌, List, [], ◌∷◌, ◌++◌, length, Option}
+use Rattle.std.specs.Prelude.{Some, None, option_map, codes}
 use Rattle.std.specs.List.{list_all}
 use Rattle.std.specs.Result.{result_ok}
 use Rattle.cynara_keys.specs.Text.{same_text, text_cmp}
 use Rattle.cynara_keys.specs.Name.{is_name}
-use Rattle.cynara_keys.specs.Key.{Key}
-use Rattle.cynara_keys.specs.Key.{Question}
-use Rattle.cynara_keys.specs.declared.keys.Filter.{Filter}
 use Rattle.bucket_store.specs.declared.policy_changes.Change.{Change}
 use Rattle.bucket_store.specs.declared.policy_changes.Change.TheVariants.{Set as SetPolicy, Delete}
 use Rattle.app_registry.specs.Rising.{rising}
@@ -16,41 +14,19 @@ use Rattle.desk_state.specs.declared.commands.Command.TheVariants as command
 use Rattle.level_requests.specs.Level.{level_at}
 use Rattle.level_requests.specs.declared.requests.Setter.{Setter}
 use Rattle.level_requests.specs.declared.requests.Setter.TheVariants.{Own, Administrator}
-use Rattle.line_script.specs.Words.{words_of, word, end_of, ◌>>=◌}
-use Rattle.line_script.specs.WordForms.{bucket_at, name_at, field_at, filter_field_at, depth_at, result_at, uid_at, user_type_at, scope_at, package_kind_at, setter_named, ident_at, author_at, label_at, request_at}
-use Rattle.line_script.specs.Verbs.{verb_at, is_known_in}
+use Rattle.script_words.specs.Words.{words_of, word, end_of, ◌>>=◌}
+use Rattle.script_words.specs.Phrases.{key_at, question_at, filter_at}
+use Rattle.script_words.specs.WordForms.{bucket_at, name_at, depth_at, result_at, uid_at, user_type_at, scope_at}
+use Rattle.script_words.specs.WordForms.{package_kind_at, setter_named, ident_at, author_at, label_at, request_at}
+use Rattle.script_words.specs.Verbs.{verb_at, is_known_in}
 use Rattle.line_script.specs.Block.{Block, outside, batch, template, failed}
-use Rattle.line_script.specs.declared.places.Place.{Place}
-use Rattle.line_script.specs.declared.verbs.Verb.{Verb}
-use Rattle.line_script.specs.declared.verbs.Verb.TheVariants as verb
+use Rattle.script_words.specs.declared.places.Place.{Place}
+use Rattle.script_words.specs.declared.verbs.Verb.{Verb}
+use Rattle.script_words.specs.declared.verbs.Verb.TheVariants as verb
 use Rattle.line_script.specs.declared.steps.Step.{Step}
 use Rattle.line_script.specs.declared.steps.Step.TheVariants as step
 
 -- ---- several words
-
--- `CLIENT USER PRIVILEGE` of a policy
-unfoldable pub key_at : List (List ℕ) → Option (Key × List (List ℕ))
-key_at words = do
-  client ← word field_at words
-  user ← word field_at client.1
-  privilege ← word field_at user.1
-  Some (record { client = client.0; user = user.0; privilege = privilege.0 }, privilege.1)
-
--- `CLIENT USER PRIVILEGE` of a question
-unfoldable pub question_at : List (List ℕ) → Option (Question × List (List ℕ))
-question_at words = do
-  client ← word name_at words
-  user ← word name_at client.1
-  privilege ← word name_at user.1
-  Some (record { client = client.0; user = user.0; privilege = privilege.0 }, privilege.1)
-
--- `FILTER FILTER FILTER`
-unfoldable pub filter_at : List (List ℕ) → Option (Filter × List (List ℕ))
-filter_at words = do
-  client ← word filter_field_at words
-  user ← word filter_field_at client.1
-  privilege ← word filter_field_at user.1
-  Some (record { client = client.0; user = user.0; privilege = privilege.0 }, privilege.1)
 
 -- the number of the user for whom an administrator sets a level
 unfoldable pub target_at : Bool → List (List ℕ) → Option (Setter × List (List ℕ))
@@ -132,8 +108,8 @@ nouser_at words = do
   ended ← end_of uid.1
   Some (step.Command (command.UserRemove uid.0))
 
--- `install PACKAGE AUTHOR APP SCOPE` and any number of privileges, whose order and repeats say nothing. Behind `hybrid` the
--- same words install into a hybrid package.
+-- `install PACKAGE AUTHOR APP SCOPE` and any number of privileges, whose order and repeats say nothing. Behind `hybrid`
+-- the same words install into a hybrid package.
 unfoldable pub install_at : Bool → List (List ℕ) → Option Step
 install_at hybrid words = do
   name ← word ident_at words
@@ -351,7 +327,7 @@ any_length_step_at (batch place changes) line = batch_at place changes line
 any_length_step_at (template place lines) line = template_at place lines line
 any_length_step_at failed line = None
 
--- The step of a line and where the script is behind it, or nothing where the line is outside the grammar. A line has at most
--- 65535 bytes.
+-- The step of a line and where the script is behind it, or nothing where the line is outside the grammar. A line has at
+-- most 65535 bytes.
 unfoldable pub step_at : Block → List ℕ → Option (Block × Step)
 step_at block line = if nat_le (length line) 65535 then any_length_step_at block line else None

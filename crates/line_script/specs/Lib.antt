@@ -1,11 +1,5 @@
-pub mod Words
-pub mod Numbers
-pub mod WordForms
-pub mod Verbs
 pub mod Block
 pub mod Spots
 pub mod Grammar
 pub mod Turn
-pub mod Refusals
-pub mod Answers
 pub mod parts

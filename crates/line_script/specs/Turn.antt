@@ -4,8 +4,8 @@ use Rattle.line_script.specs.Block.{Block, outside, batch, template, failed}
 use Rattle.smack_rules.specs.Modes.{is_request}
 use Rattle.line_script.specs.declared.steps.Step.{Step}
 use Rattle.line_script.specs.declared.steps.Step.TheVariants.{Access}
-use Rattle.line_script.specs.declared.steps.LineRefusal.{LineRefusal}
-use Rattle.line_script.specs.declared.steps.LineRefusal.TheVariants.{Syntax, Memory}
+use Rattle.script_words.specs.declared.refusals.LineRefusal.{LineRefusal}
+use Rattle.script_words.specs.declared.refusals.LineRefusal.TheVariants.{Syntax, Memory}
 
 -- The step of the line and the new place, as the grammar has them. After a refusal no line is read any more; memory may
 -- run out at any line.

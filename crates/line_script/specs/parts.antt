@@ -1,5 +1,2 @@
-pub mod Reading
-pub mod WordsLeft
 pub mod Progress
-pub mod Appending
 pub mod Beginnings

@@ -3,15 +3,12 @@
 ghost use Rattle.std.specs.Prelude.{Some, option_map, IfOk};
 ghost use Rattle.line_script.specs.Grammar.{set_at, unset_at, change_step};
 ghost use Rattle.line_script.specs.Turn.{AsksRequest};
-ghost use Rattle.line_script.specs.parts.Reading.{Gives};
+ghost use Rattle.script_words.specs.Reading.{Gives};
 
-use crate::line_words::Words;
-use crate::phrases::key_words;
-use crate::results::result_word;
-use crate::steps::{LineRefusal, Step};
-use crate::word_forms::{bucket_word, end_word};
+use crate::steps::Step;
 use bucket_store::{Change, Changes};
 use desk_state::Command;
+use script_words::{LineRefusal, Words, bucket_word, end_word, key_words, result_word};
 use std::alloc::{AllocError, Global};
 
 /// `set BUCKET CLIENT USER PRIVILEGE RESULT`.

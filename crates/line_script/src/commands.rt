@@ -1,18 +1,17 @@
 //! Lines that are one command, behind their first word.
 
 ghost use Rattle.std.specs.Prelude.{IfOk};
-ghost use Rattle.line_script.specs.Grammar.{set_bucket_at, drop_at, erase_at, layout_at, user_at, nouser_at, convert_at, remove_at};
+ghost use Rattle.line_script.specs.Grammar.{set_bucket_at, drop_at, erase_at, layout_at, user_at, nouser_at};
+ghost use Rattle.line_script.specs.Grammar.{convert_at, remove_at};
 ghost use Rattle.line_script.specs.Turn.{AsksRequest};
-ghost use Rattle.line_script.specs.parts.Reading.{Gives};
+ghost use Rattle.script_words.specs.Reading.{Gives};
 
-use crate::line_words::Words;
-use crate::phrases::filter_words;
-use crate::results::result_word;
-use crate::steps::{LineRefusal, Step};
-use crate::word_forms::{
-    bucket_word, end_word, ident_word, package_kind_word, scope_word, uid_word, user_type_word,
-};
+use crate::steps::Step;
 use desk_state::Command;
+use script_words::{
+    LineRefusal, Words, bucket_word, end_word, filter_words, ident_word, package_kind_word,
+    result_word, scope_word, uid_word, user_type_word,
+};
 use std::alloc::Global;
 
 /// `bucket BUCKET RESULT`.

@@ -2,16 +2,15 @@
 
 ghost use Rattle.std.specs.Prelude.{◌≡◌, Some, MatchResult, IfOk};
 ghost use Rattle.line_script.specs.Grammar.{install_at, names_at};
-ghost use Rattle.line_script.specs.WordForms.{name_at};
+ghost use Rattle.script_words.specs.WordForms.{name_at};
 ghost use Rattle.line_script.specs.Turn.{AsksRequest};
-ghost use Rattle.line_script.specs.parts.Reading.{Gives, Refuses};
+ghost use Rattle.script_words.specs.Reading.{Gives, Refuses};
 
-use crate::line_words::Words;
-use crate::steps::{LineRefusal, Step};
-use crate::word_forms::{author_word, ident_word, scope_word};
+use crate::steps::Step;
 use app_registry::{Install, NameSet};
 use cynara_keys::{Name, NameRefusal};
 use desk_state::Command;
+use script_words::{LineRefusal, Words, author_word, ident_word, scope_word};
 use std::alloc::{AllocError, Global};
 
 /// `install PACKAGE AUTHOR APP SCOPE` and any number of privileges, or the same behind `hybrid`, into a hybrid package.

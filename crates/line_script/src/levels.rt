@@ -3,14 +3,13 @@
 ghost use Rattle.std.specs.Prelude.{IfOk};
 ghost use Rattle.line_script.specs.Grammar.{target_at, setter_at, level_line_at, levels_at, audit_at};
 ghost use Rattle.line_script.specs.Turn.{AsksRequest};
-ghost use Rattle.line_script.specs.parts.Reading.{Gives, GivesWord};
+ghost use Rattle.script_words.specs.Reading.{Gives, GivesWord};
 ghost use Rattle.line_script.specs.declared.steps.Step.TheVariants as step;
 
-use crate::line_words::Words;
-use crate::steps::{LineRefusal, Step};
-use crate::word_forms::{end_word, level_word, name_word, setter_word, uid_word};
+use crate::steps::Step;
 use desk_ports::Boxed;
 use level_requests::{LevelRequest, Setter};
+use script_words::{LineRefusal, Words, end_word, level_word, name_word, setter_word, uid_word};
 use std::alloc::Global;
 
 /// `level CALLER own CLIENT PRIVILEGE LEVEL`, or `level CALLER admin UID CLIENT PRIVILEGE LEVEL`.

@@ -1,12 +1,12 @@
 ghost use Rattle.std.specs.Prelude.{◌≡◌, Some, IfOk, IfSome};
 ghost use Rattle.line_script.specs.Block.{outside};
 ghost use Rattle.line_script.specs.Grammar.{change_at, line_at, lone_change, lone_step, outside_at};
-ghost use Rattle.line_script.specs.Words.{word};
-ghost use Rattle.line_script.specs.Verbs.{verb_at};
+ghost use Rattle.script_words.specs.Words.{word};
+ghost use Rattle.script_words.specs.Verbs.{verb_at};
 ghost use Rattle.line_script.specs.Turn.{AsksRequest};
 ghost use Rattle.line_script.specs.parts.Beginnings.{begins_as_check};
-ghost use Rattle.line_script.specs.parts.Reading.{Gives, GivesWord};
-ghost use Rattle.line_script.specs.declared.places.Place.{Place};
+ghost use Rattle.script_words.specs.Reading.{Gives, GivesWord};
+ghost use Rattle.script_words.specs.declared.places.Place.{Place};
 ghost use Rattle.line_script.specs.declared.steps.Step.TheVariants as step;
 
 use crate::changes::{set_line, set_step, unset_line, unset_step};
@@ -16,16 +16,14 @@ use crate::commands::{
 };
 use crate::installs::install_line;
 use crate::levels::{audit_line, level_line, levels_line};
-use crate::line_words::Words;
-use crate::places::Place;
 use crate::questions::{
     access_line, check_line, from_line, list_line, status_line, stop_line, whole_question,
 };
 use crate::sharing::{share_line, shares_line, unshare_line};
-use crate::steps::{LineRefusal, Step};
-use crate::verbs::Verb;
+use crate::steps::Step;
 use bucket_store::Change;
 use cynara_keys::BorrowedQuestion;
+use script_words::{LineRefusal, Place, Verb, Words};
 use std::alloc::Global;
 
 /// The step of a line that stands outside a block, in a script for this place, and is neither blank nor a comment.
@@ -60,7 +58,8 @@ pub(crate) fn lone_change(alloc: Global, line: &[u8]) -> Result<Change, LineRefu
 /// wrong.
 #[inline(always)]
 pub(crate) fn lone_check<'a>(line: &'a [u8]) -> Option<BorrowedQuestion<'a>>
-    ensures { IfSome result (λ question. (place : Place) → outside_at place line.now ≡ Some (outside place, step.Check question)) }
+    ensures { IfSome result (λ question. (place : Place)
+        → outside_at place line.now ≡ Some (outside place, step.Check question)) }
 {
     if !begins_as_check(line) {
         return None;

@@ -5,11 +5,11 @@ ghost use Rattle.line_script.specs.parts.Progress.{block_of};
 ghost use Rattle.line_script.specs.declared.progress.Progress.TheVariants as progress;
 
 use crate::lines::{lone_change, lone_step};
-use crate::places::Place;
-use crate::steps::{LineRefusal, Step};
+use crate::steps::Step;
 use bucket_store::{Change, Changes};
 use desk_state::Command;
 use rule_templates::{Template, TemplateRefusal};
+use script_words::{LineRefusal, Place};
 use std::alloc::{AllocError, Global};
 use std::mem::replace;
 
@@ -23,8 +23,8 @@ pub(crate) enum Progress {
 }
 
 impl Progress {
-    /// Reads one line of any length in a script for this place. Refuses `Syntax` exactly where no line that is known there
-    /// reads so, unless memory runs out first.
+    /// Reads one line of any length in a script for this place. Refuses `Syntax` exactly where no line that is known
+    /// there reads so, unless memory runs out first.
     #[tactic(auto, unfolding(crate::specs::Grammar::any_length_step_at))]
     pub(crate) fn line<'a>(
         &mut self,

@@ -3,15 +3,16 @@
 ghost use Rattle.std.specs.Prelude.{◌≡◌, Some, IfOk, MatchResult};
 ghost use Rattle.line_script.specs.Grammar.{list_at, check_at, from_at, access_at, status_at, stop_at};
 ghost use Rattle.line_script.specs.Turn.{AsksRequest};
-ghost use Rattle.line_script.specs.parts.Reading.{Gives, Refuses};
+ghost use Rattle.script_words.specs.Reading.{Gives, Refuses};
 ghost use Rattle.line_script.specs.declared.steps.Step.TheVariants as step;
 
-use crate::line_words::Words;
-use crate::phrases::{filter_words, question_words};
-use crate::steps::{LineRefusal, Step};
-use crate::word_forms::{bucket_word, depth_word, end_word, label_word, request_word};
+use crate::steps::Step;
 use cynara_keys::BorrowedQuestion;
 use desk_ports::Boxed;
+use script_words::{
+    LineRefusal, Words, bucket_word, depth_word, end_word, filter_words, label_word,
+    question_words, request_word,
+};
 use std::alloc::Global;
 
 /// `list BUCKET FILTER FILTER FILTER`.

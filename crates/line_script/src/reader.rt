@@ -6,11 +6,11 @@ ghost use Rattle.line_script.specs.Turn.{Turns, is_in_block, AsksRequest};
 ghost use Rattle.line_script.specs.declared.steps.Step.TheVariants as step;
 
 use crate::lines::lone_check;
-use crate::places::Place;
 use crate::progress::Progress;
 use crate::spots::Spot;
-use crate::steps::{LineRefusal, Step};
+use crate::steps::Step;
 use cynara_keys::BorrowedQuestion;
+use script_words::{LineRefusal, Place};
 use std::alloc::Global;
 use std::marker::Model;
 
@@ -69,8 +69,8 @@ impl Reader {
         }
     }
 
-    /// The question of a line that is `check` and stands outside a block: a shorter way to what `line` reads most often. The
-    /// reader stays as it is. `None` for every other line, and for one that is wrong.
+    /// The question of a line that is `check` and stands outside a block: a shorter way to what `line` reads most
+    /// often. The reader stays as it is. `None` for every other line, and for one that is wrong.
     #[inline]
     pub fn check<'a>(&self, line: &'a [u8]) -> Option<BorrowedQuestion<'a>>
         ensures { IfSome result (λ question. step_at self.now line.now ≡ Some (self.now, step.Check question)) }
@@ -84,8 +84,9 @@ impl Reader {
         }
     }
 
-    /// Reads one line, given without its newline. Refuses `Syntax` exactly where the line is outside the grammar, unless
-    /// memory runs out first; every line behind a refused one is outside. A line of more than `MOST_LINE_BYTES` is outside.
+    /// Reads one line, given without its newline. Refuses `Syntax` exactly where the line is outside the grammar,
+    /// unless memory runs out first; every line behind a refused one is outside. A line of more than `MOST_LINE_BYTES`
+    /// is outside.
     #[tactic(auto, unfolding(crate::specs::Grammar::step_at))]
     pub fn line<'a>(&mut self, line: &'a [u8]) -> Result<Step<'a>, LineRefusal>
         ensures turn { Turns (step_at self.old line.now) result self.new }

@@ -3,11 +3,10 @@
 ghost use Rattle.std.specs.Prelude.{IfOk};
 ghost use Rattle.line_script.specs.Grammar.{share_at, unshare_at, shares_at};
 ghost use Rattle.line_script.specs.Turn.{AsksRequest};
-ghost use Rattle.line_script.specs.parts.Reading.{Gives};
+ghost use Rattle.script_words.specs.Reading.{Gives};
 
-use crate::line_words::Words;
-use crate::steps::{LineRefusal, Step};
-use crate::word_forms::{end_word, ident_word};
+use crate::steps::Step;
+use script_words::{LineRefusal, Words, end_word, ident_word};
 use std::alloc::Global;
 
 /// `share OWNER TARGET NAME`.

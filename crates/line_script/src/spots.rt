@@ -1,4 +1,4 @@
-use crate::places::Place;
+use script_words::Place;
 
 /// Where the next line of a script stands, for what depends on that alone.
 #[derive(Clone, Copy, Debug, PartialEq, Eq)]

@@ -1,15 +1,15 @@
 ghost use Rattle.std.specs.Prelude.{Some};
 ghost use Rattle.line_script.specs.declared.steps.Step.TheVariants as step;
-ghost use Rattle.line_script.specs.parts.Reading.{Gives};
+ghost use Rattle.script_words.specs.Reading.{Gives};
 
 use app_registry::Ident;
 use cynara_keys::{BorrowedQuestion, BucketName, Filter, Name};
 use desk_ports::Boxed;
 use desk_state::Command;
 use level_requests::LevelRequest;
+use script_words::LineRefusal;
 use smack_rules::{Label, Modes};
-use std::alloc::{AllocError, Global};
-use thiserror::Error;
+use std::alloc::Global;
 
 /// What a line of a script asks for. The names of a question stand in the line.
 #[derive(Debug, Drop)]
@@ -77,15 +77,4 @@ impl<'a> Step<'a> {
             Err(error) => Err(LineRefusal::Memory(error)),
         }
     }
-}
-
-/// Why a line gave no step.
-#[derive(Clone, Copy, Debug, PartialEq, Eq, Error)]
-pub enum LineRefusal {
-    /// The line is outside the grammar, where it stands.
-    #[error("the line is outside the grammar of scripts")]
-    Syntax,
-    /// No memory for what the line says. The line may be in the grammar or outside it.
-    #[error("out of memory")]
-    Memory(AllocError),
 }

@@ -1,19 +1,23 @@
--- How the answering of a script ends, with what it keeps: of the folder, say. `Keeps` says it for each way to end, of the
--- steps that were answered and of those that were read.
-use Rattle.std.proofs.Common.{◌≡◌, ◌+◌, inl, inr, ℕ, true, false, List, [], ◌∷◌, ◌++◌, take, Option, Err, refl, sym, ap, ◌∙◌, append_assoc, append-nil}
+-- How the answering of a script ends, with what it keeps: of the folder, say. `Keeps` says it for each way to end, of
+-- the steps that were answered and of those that were read.
+use Rattle.std.proofs.Common.{◌≡◌, ◌+◌, inl, inr, ℕ, true, false, List, [], ◌∷◌, ◌++◌, take, Option, Err, refl, sym, ap}
+use Rattle.std.proofs.Common.{◌∙◌, append_assoc, append-nil}
 use Rattle.desk_ports.proofs.Appends.{Appended-none, Appended-then}
 use Rattle.text_lines.specs.LineReader.{LineReading}
 use Rattle.line_script.specs.Turn.{is_in_block}
-use Rattle.line_script.specs.declared.places.Place.TheVariants.{Local}
+use Rattle.script_words.specs.declared.places.Place.TheVariants.{Local}
 use Rattle.desk_state.specs.DeskState.{DeskState}
 use Rattle.line_script.specs.declared.steps.Step.{Step}
 use Rattle.script_replies.specs.Script.{replies}
-use Rattle.script_reading.specs.Reading.{Reads, Has, ReadsLines, MeetsWrongLine}
-use Rattle.script_reading.proofs.Ending.{ends_unread, ends_there, ends_behind, ends_by_source, ends_past_limit, ends_at_line, ends_done, ends_in_block}
-use Rattle.local_runs.specs.parts.Local.{Hands, EndsScript, WantsMemory, StopsAtLine, FailsToRead, FailsToWrite, FailsNext, Turns}
+use Rattle.script_replies.specs.Reading.{Reads, Has, ReadsLines, MeetsWrongLine}
+use Rattle.script_replies.proofs.Ending.{ends_unread, ends_there, ends_behind, ends_by_source, ends_past_limit}
+use Rattle.script_replies.proofs.Ending.{ends_at_line, ends_done, ends_in_block}
+use Rattle.local_runs.specs.parts.Local.{Hands, EndsScript, WantsMemory, StopsAtLine, FailsToRead, FailsToWrite}
+use Rattle.local_runs.specs.parts.Local.{FailsNext, Turns}
 use Rattle.local_runs.specs.parts.Progress.{Progress, Answers}
 use Rattle.run_endings.specs.declared.endings.Ending.{Ending}
-use Rattle.run_endings.specs.declared.endings.Ending.TheVariants.{Done, Memory, Words, Line, Source, Sink, Disk, Net, Damaged, Reply, TooLong}
+use Rattle.run_endings.specs.declared.endings.Ending.TheVariants.{Done, Memory, Words, Line, Source, Sink, Disk, Net}
+use Rattle.run_endings.specs.declared.endings.Ending.TheVariants.{Damaged, Reply, TooLong}
 use Rattle.local_runs.specs.declared.local_script.LocalScript.{LocalScript}
 use Rattle.script_replies.proofs.Steps.{in-turn-none, in-turn-more}
 use Rattle.run_endings.proofs.Trying.{IsCut-take}
@@ -22,7 +26,8 @@ module _ (Keeps : Ending → List Step → List Step → Type 0) (start : DeskSt
   -- how a script is answered, and what is kept
   abbrev pub Ended : Ending → List ℕ → Option (List ℕ) → Option (List ℕ) → Option (List ℕ) → Option (List ℕ) → Type 0
   Ended ending waiting left left_after taken taken_after =
-      (answers : Answers start ending waiting left left_after taken taken_after) × Keeps ending answers.answered answers.steps
+      (answers : Answers start ending waiting left left_after taken taken_after)
+      × Keeps ending answers.answered answers.steps
 
   -- memory ran out before anything was read
   pub Answers-nothing : (left taken : Option (List ℕ)) (waiting : List ℕ) → waiting ≡ [] → Keeps Memory [] []
@@ -47,10 +52,12 @@ module _ (Keeps : Ending → List Step → List Step → Type 0) (start : DeskSt
 
   module _ {left left_now taken taken_now : Option (List ℕ)} {now : LocalScript} {desk : DeskState} {reading : LineReading}
       (p : Reads Local left left_now now.reader reading) (a : Progress start taken taken_now now desk p.steps) where
-    handed_so_far : {taken_after : Option (List ℕ)} {waiting : List ℕ} (hands : Hands taken_now taken_after now.answers waiting)
+    handed_so_far : {taken_after : Option (List ℕ)} {waiting : List ℕ}
+        (hands : Hands taken_now taken_after now.answers waiting)
         → replies start [] p.steps ≡ (a.written ++ hands.handed) ++ waiting
     handed_so_far {waiting = waiting} hands =
-        a.answered ∙ ap (λ answers. a.written ++ answers) hands.parts ∙ sym (append_assoc a.written hands.handed waiting)
+        a.answered ∙ ap (λ answers. a.written ++ answers) hands.parts
+        ∙ sym (append_assoc a.written hands.handed waiting)
 
     module _ {left_after taken_after : Option (List ℕ)} {new : LocalScript} {desk_after : DeskState} {reading_after : LineReading} where
       -- the script was read to its end
@@ -221,9 +228,11 @@ module _ (Keeps : Ending → List Step → List Step → Type 0) (start : DeskSt
           )
 
   -- what is kept at a turn that stops the run, behind these steps
-  abbrev pub KeptAt : (left_now left_after taken_now taken_after : Option (List ℕ)) (now new : LocalScript) (desk desk_after : DeskState)
+  abbrev pub KeptAt : (left_now left_after taken_now taken_after : Option (List ℕ)) (now new : LocalScript)
+      (desk desk_after : DeskState)
       (reading reading_after : LineReading) (steps : List Step) (ending : Ending)
-      → Turns left_now left_after taken_now taken_after now new desk desk_after reading reading_after (Err ending) → Type 0
+      → Turns left_now left_after taken_now taken_after now new desk desk_after reading reading_after (Err ending)
+      → Type 0
   KeptAt left_now left_after taken_now taken_after now new desk desk_after reading reading_after steps Disk turn =
       Keeps Disk steps (steps ++ turn.fails.step ∷ [])
   KeptAt left_now left_after taken_now taken_after now new desk desk_after reading reading_after steps ending turn =
@@ -234,7 +243,8 @@ module _ (Keeps : Ending → List Step → List Step → Type 0) (start : DeskSt
       {desk : DeskState} {reading : LineReading} (p : Reads Local left left_now now.reader reading)
       (a : Progress start taken taken_now now desk p.steps)
       → (new : LocalScript) (desk_after : DeskState) (reading_after : LineReading) (ending : Ending)
-      → (turn : Turns left_now left_after taken_now taken_after now new desk desk_after reading reading_after (Err ending))
+      → (turn : Turns left_now left_after taken_now taken_after now new desk desk_after reading reading_after
+      (Err ending))
       → KeptAt left_now left_after taken_now taken_after now new desk desk_after reading reading_after p.steps ending turn
       → Ended ending new.answers left left_after taken taken_after
   Answers-stopped p a new desk_after reading_after Done turn keeps = absurd turn

@@ -10,7 +10,8 @@ use Rattle.script_replies.specs.Script.{wrong_line, replies}
 use Rattle.folder_runs.specs.Folder.{RefusesMount, StandsFor}
 use Rattle.local_runs.specs.LocalRun.{read_local, AnswersScript, RunsLocal}
 
-module _ (said : Said) (source source_after : SourceSeen) (disk disk_after : DiskSeen) (input : List ℕ) (start : DeskState)
+module _ (said : Said) (source source_after : SourceSeen) (disk disk_after : DiskSeen) (input : List ℕ)
+    (start : DeskState)
     (told : source.left ≡ Some input) (right : wrong_line (read_local input) ≡ None) (stands : StandsFor disk start) where
   abbrev pub answer : List ℕ
   answer = replies start [] (read_local input).steps
@@ -31,22 +32,26 @@ module _ (said : Said) (source source_after : SourceSeen) (disk disk_after : Dis
       (subst (λ (left : Option (List ℕ)). HadInput left source_after.left other rest) told had).0
 
   over : (ending : Ending) (first : DeskState) → start ≡ first → IsUnfailed ending
-      → AnswersScript first said ending source source_after → ((ending ≡ Done) × (said.due ≡ answer)) ⊎ (ending ≡ Memory)
+      → AnswersScript first said ending source source_after → ((ending ≡ Done) × (said.due ≡ answer))
+      ⊎ (ending ≡ Memory)
   over Done first same unfailed script =
       let input_is = same-input script.input script.rest script.had in
-      let steps = sym script.are_answered ∙ (script.read.steps_are ∙ ap (λ bytes. (read_local bytes).steps) (sym input_is)) in
+      let steps = sym script.are_answered
+      ∙ (script.read.steps_are ∙ ap (λ bytes. (read_local bytes).steps) (sym input_is)) in
       inl (refl, script.due ∙ (ap (replies first []) steps ∙ ap (λ desk. replies desk [] (read_local input).steps) (sym same)))
   over Memory first same unfailed script = inr refl
   over (Line number) first same unfailed script =
       let input_is = same-input script.input script.rest script.had in
-      let wrong : Some number ≡ None = sym script.read.wrong ∙ (ap (λ bytes. wrong_line (read_local bytes)) (sym input_is) ∙ right) in
+      let wrong : Some number ≡ None = sym script.read.wrong
+      ∙ (ap (λ bytes. wrong_line (read_local bytes)) (sym input_is) ∙ right) in
       cc
   over Source first same unfailed script = absurd unfailed
   over Sink first same unfailed script = absurd unfailed
   over Disk first same unfailed script = absurd unfailed
   over ending first same unfailed script = absurd script.read
 
-  pub completes-local : (ending : Ending) → IsUnfailed ending → RunsLocal said ending source source_after disk disk_after
+  pub completes-local : (ending : Ending) → IsUnfailed ending
+      → RunsLocal said ending source source_after disk disk_after
       → ((ending ≡ Done) × (said.due ≡ answer)) ⊎ (ending ≡ Memory)
   completes-local ending unfailed (inl refuses) = inr (refused ending unfailed refuses.folder.refused)
   completes-local ending unfailed (inr run) =

@@ -1,5 +1,6 @@
 -- A script's run, with the answers that waited when it ended.
-use Rattle.std.proofs.Common.{◌≡◌, [], ◌∷◌, ◌++◌, inl, inr, ℕ, List, take, Option, Result, Ok, Err, refl, sym, ap, ◌∙◌, subst, append_assoc, append-nil}
+use Rattle.std.proofs.Common.{◌≡◌, [], ◌∷◌, ◌++◌, inl, inr, ℕ, List, take, Option, Result, Ok, Err, refl, sym, ap, ◌∙◌}
+use Rattle.std.proofs.Common.{subst, append_assoc, append-nil}
 use Rattle.desk_ports.specs.Faults.{next_count}
 use Rattle.desk_ports.specs.Content.{Appended}
 use Rattle.desk_ports.proofs.Appends.{Appended-none, Appended-then}
@@ -14,7 +15,8 @@ use Rattle.local_runs.specs.parts.Local.{Flushes, counts_sink}
 use Rattle.local_runs.specs.parts.Progress.{Answers}
 use Rattle.local_runs.specs.parts.Finish.{Finishes}
 use Rattle.run_endings.specs.declared.endings.Ending.{Ending}
-use Rattle.run_endings.specs.declared.endings.Ending.TheVariants.{Done, Memory, Words, Line, Source, Sink, Disk, Net, Damaged, Reply, TooLong}
+use Rattle.run_endings.specs.declared.endings.Ending.TheVariants.{Done, Memory, Words, Line, Source, Sink, Disk, Net}
+use Rattle.run_endings.specs.declared.endings.Ending.TheVariants.{Damaged, Reply, TooLong}
 use Rattle.local_runs.specs.declared.local_script.LocalScript.{LocalScript}
 use Rattle.script_replies.proofs.Steps.{in-turn-more}
 use Rattle.run_endings.proofs.Trying.{IsCut-take}
@@ -29,7 +31,8 @@ IsCut-behind front written bytes answers parts cut = (
 )
 
 -- what waited was tried when memory had run out
-pub Finishes-memory : (result : Result (Unit {0}) Ending) (taken taken_after : Option (List ℕ)) (old new : LocalScript) (faults faults_after : ℕ)
+pub Finishes-memory : (result : Result (Unit {0}) Ending) (taken taken_after : Option (List ℕ)) (old new : LocalScript)
+    (faults faults_after : ℕ)
     → Flushes taken taken_after old new result → faults_after ≡ counts_sink result faults
     → (written : List ℕ) × Appended taken written taken_after × IsTried faults faults_after old.answers written
 Finishes-memory (Ok value) taken taken_after old new faults faults_after flushed count =
@@ -50,7 +53,8 @@ Finishes-memory (Err (Damaged file line)) taken taken_after old new faults fault
 -- ---- the counts behind it
 
 -- the source's count
-pub finished-source : (ending result : Ending) (taken taken_after : Option (List ℕ)) (faults faults_after count : ℕ) (waiting : List ℕ)
+pub finished-source : (ending result : Ending) (taken taken_after : Option (List ℕ)) (faults faults_after count : ℕ)
+    (waiting : List ℕ)
     → Finishes taken taken_after faults faults_after waiting ending result
     → source_faults_after ending count ≡ source_faults_after result count
 finished-source Memory result taken taken_after faults faults_after count waiting finish =
@@ -63,7 +67,8 @@ finished-source ending result taken taken_after faults faults_after count waitin
     ap (λ ending. source_faults_after ending count) (sym finish.0)
 
 -- the disk's count
-pub finished-disk : (ending result : Ending) (taken taken_after : Option (List ℕ)) (faults faults_after count : ℕ) (waiting : List ℕ)
+pub finished-disk : (ending result : Ending) (taken taken_after : Option (List ℕ)) (faults faults_after count : ℕ)
+    (waiting : List ℕ)
     → Finishes taken taken_after faults faults_after waiting ending result
     → disk_faults_after ending count ≡ disk_faults_after result count
 finished-disk Memory result taken taken_after faults faults_after count waiting finish =
@@ -81,7 +86,8 @@ module _ (Keeps : Ending → List Step → List Step → Type 0) (start : DeskSt
   Run ending =
       (said : Said) × (script : AnswersScript start said ending source source_after)
       × Keeps ending script.answered script.steps
-      × WritesAnswers ending said (record { taken = taken; faults = faults }) (record { taken = taken_after; faults = faults_after })
+      × WritesAnswers ending said (record { taken = taken; faults = faults })
+      (record { taken = taken_after; faults = faults_after })
 
   module _ (ending result : Ending) (a : Answers start ending waiting source.left source_after.left taken taken_now)
       (read : HasRead result a.input a.rest a.steps) (are_answered : AreAnswered result start a.answered a.steps)
@@ -117,9 +123,11 @@ module _ (Keeps : Ending → List Step → List Step → Type 0) (start : DeskSt
     with_none : taken_after ≡ taken_now → AreWritten result faults faults_after (SaidSo a.written) → Run result
     with_none same are_written =
         with_more [] (subst (Appended taken_now []) (sym same) (Appended-none taken_now))
-        (subst (λ written. AreWritten result faults faults_after (SaidSo written)) (sym (append-nil a.written)) are_written)
+        (subst (λ written. AreWritten result faults faults_after (SaidSo written))
+        (sym (append-nil a.written)) are_written)
 
-  pub Run-finished : (ending result : Ending) → (a : Answers start ending waiting source.left source_after.left taken taken_now)
+  pub Run-finished : (ending result : Ending)
+      → (a : Answers start ending waiting source.left source_after.left taken taken_now)
       → Keeps ending a.answered a.steps
       → ((number : ℕ) → ending ≡ Line number → Keeps Sink a.answered a.steps)
       → faults_now ≡ counts_sink {A = Unit {0}} (Err ending) faults

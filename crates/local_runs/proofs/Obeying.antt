@@ -1,5 +1,6 @@
 -- Commands: the answers that wait behind them, and how a line's step ends.
-use Rattle.std.proofs.Common.{◌≡◌, ◌++◌, [], ℕ, List, Option, Some, None, Result, Ok, Err, MatchResult, inl, inr, refl, sym, ap, ◌∙◌, append-nil}
+use Rattle.std.proofs.Common.{◌≡◌, ◌++◌, [], ℕ, List, Option, Some, None, Result, Ok, Err, MatchResult, inl, inr, refl}
+use Rattle.std.proofs.Common.{sym, ap, ◌∙◌, append-nil}
 use Rattle.cynara_keys.specs.Key.{Question}
 use Rattle.desk_ports.specs.Content.{Appended}
 use Rattle.desk_ports.proofs.Appends.{Appended-none}
@@ -15,7 +16,8 @@ use Rattle.script_replies.specs.Reply.{command_text, applied, settled_by, reply}
 use Rattle.local_runs.specs.parts.Local.{Hands, Flushes, AnswersStep, RefusesStep, AnswersLine, RefusesLine}
 use Rattle.folder_runs.specs.Keeping.{counts_disk}
 use Rattle.run_endings.specs.declared.endings.Ending.{Ending}
-use Rattle.run_endings.specs.declared.endings.Ending.TheVariants.{Done, Memory, Words, Line, Source, Sink, Disk, Net, Damaged, Reply, TooLong}
+use Rattle.run_endings.specs.declared.endings.Ending.TheVariants.{Done, Memory, Words, Line, Source, Sink, Disk, Net}
+use Rattle.run_endings.specs.declared.endings.Ending.TheVariants.{Damaged, Reply, TooLong}
 use Rattle.local_runs.specs.declared.local_script.LocalScript.{LocalScript}
 
 -- no answer was handed over
@@ -25,7 +27,8 @@ hands-none taken answers answers_after same =
     record { handed = []; appended = Appended-none taken; parts = sym same }
 
 -- all answers were
-pub hands-all : (taken taken_after : Option (List ℕ)) (answers waiting : List ℕ) → Appended taken answers taken_after → waiting ≡ []
+pub hands-all : (taken taken_after : Option (List ℕ)) (answers waiting : List ℕ) → Appended taken answers taken_after
+    → waiting ≡ []
     → Hands taken taken_after answers waiting
 hands-all taken taken_after answers waiting appended none =
     record {
@@ -35,7 +38,8 @@ hands-all taken taken_after answers waiting appended none =
     }
 
 -- a command was refused
-pub answers-refusal : (taken : Option (List ℕ)) (answers answers_after : List ℕ) (desk : DeskState) (shares : List Share)
+pub answers-refusal : (taken : Option (List ℕ)) (answers answers_after : List ℕ) (desk : DeskState)
+    (shares : List Share)
     (command : Command) (broken : Refusal) → fault desk command ≡ Some broken
     → answers_after ≡ answers ++ command_text desk command (Some broken)
     → AnswersStep taken taken answers answers_after desk desk shares shares (step.Command command)
@@ -50,8 +54,10 @@ answers-refusal taken answers answers_after desk shares command broken breaks te
     }
 
 -- a command was accepted, when all earlier answers were taken
-pub answers-command : (taken taken_after : Option (List ℕ)) (answers flushed answers_after : List ℕ) (desk desk_after : DeskState)
-    (shares shares_now : List Share) (command : Command) → fault desk command ≡ None → Appended taken answers taken_after
+pub answers-command : (taken taken_after : Option (List ℕ)) (answers flushed answers_after : List ℕ)
+    (desk desk_after : DeskState)
+    (shares shares_now : List Share) (command : Command) → fault desk command ≡ None
+    → Appended taken answers taken_after
     → flushed ≡ [] → answers_after ≡ flushed ++ command_text desk command None → desk_after ≡ applied desk command None
     → shares_now ≡ settled_by desk shares command None
     → AnswersStep taken taken_after answers answers_after desk desk_after shares shares_now (step.Command command)
@@ -66,7 +72,8 @@ answers-command taken taken_after answers flushed answers_after desk desk_after 
     }
 
 -- how a line ends, by how its step does
-pub line-of-step : (taken taken_after : Option (List ℕ)) (old new : LocalScript) (desk desk_after : DeskState) (line : List ℕ)
+pub line-of-step : (taken taken_after : Option (List ℕ)) (old new : LocalScript) (desk desk_after : DeskState)
+    (line : List ℕ)
     (number : ℕ) (asked : Step) → step_at old.reader line ≡ Some (new.reader, asked)
     → (result : Result (Unit {0}) Ending)
     → MatchResult result (λ value. AnswersStep taken taken_after old.answers new.answers desk desk_after old.shares new.shares asked)
@@ -82,16 +89,22 @@ line-of-step taken taken_after old new desk desk_after line number asked reads (
 line-of-step taken taken_after old new desk desk_after line number asked reads (Err Done) refuses = absurd refuses
 line-of-step taken taken_after old new desk desk_after line number asked reads (Err Words) refuses = absurd refuses
 line-of-step taken taken_after old new desk desk_after line number asked reads (Err Source) refuses = absurd refuses
-line-of-step taken taken_after old new desk desk_after line number asked reads (Err (Line wrong)) refuses = absurd refuses
+line-of-step taken taken_after old new desk desk_after line number asked reads
+    (Err (Line wrong)) refuses = absurd refuses
 line-of-step taken taken_after old new desk desk_after line number asked reads (Err Net) refuses = absurd refuses
 line-of-step taken taken_after old new desk desk_after line number asked reads (Err Reply) refuses = absurd refuses
-line-of-step taken taken_after old new desk desk_after line number asked reads (Err (TooLong size)) refuses = absurd refuses
-line-of-step taken taken_after old new desk desk_after line number asked reads (Err (Damaged file place)) refuses = absurd refuses
+line-of-step taken taken_after old new desk desk_after line number asked reads
+    (Err (TooLong size)) refuses = absurd refuses
+line-of-step taken taken_after old new desk desk_after line number asked reads
+    (Err (Damaged file place)) refuses = absurd refuses
 
 -- the line asks for a check, whose answer waits
-pub answers-check : (taken : Option (List ℕ)) (old new : LocalScript) (desk : DeskState) (line : List ℕ) (question : Question)
-    → step_at old.reader line ≡ Some (old.reader, step.Check question) → new.reader ≡ old.reader → new.shares ≡ old.shares
-    → new.answers ≡ old.answers ++ reply desk old.shares (step.Check question) → AnswersLine taken taken old new desk desk line
+pub answers-check : (taken : Option (List ℕ)) (old new : LocalScript) (desk : DeskState) (line : List ℕ)
+    (question : Question)
+    → step_at old.reader line ≡ Some (old.reader, step.Check question) → new.reader ≡ old.reader
+    → new.shares ≡ old.shares
+    → new.answers ≡ old.answers ++ reply desk old.shares (step.Check question)
+    → AnswersLine taken taken old new desk desk line
 answers-check taken old new desk line question reads same shares text =
     record {
       step = step.Check question;
@@ -109,7 +122,8 @@ answers-check taken old new desk line question reads same shares text =
 -- the answers that waited were not all taken
 module _ (taken taken_after : Option (List ℕ)) (old new : LocalScript) where
   pub refuses-unflushed : (answers_after : List ℕ) (desk : DeskState) (asked : Step) (ending : Ending)
-      → Flushes taken taken_after old new (Err ending) → RefusesStep taken taken_after old.answers answers_after desk desk asked ending
+      → Flushes taken taken_after old new (Err ending)
+      → RefusesStep taken taken_after old.answers answers_after desk desk asked ending
   refuses-unflushed answers_after desk asked Sink flushed = (flushed.0, refl)
   refuses-unflushed answers_after desk asked Done flushed = absurd flushed
   refuses-unflushed answers_after desk asked Memory flushed = absurd flushed

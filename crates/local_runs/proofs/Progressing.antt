@@ -1,19 +1,21 @@
 -- A script that is being answered goes on by one line.
-use Rattle.std.proofs.Common.{◌≡◌, ◌≤◌, ◌⊎◌, inl, inr, ℕ, List, [], ◌∷◌, ◌++◌, length, Option, refl, sym, ap, ◌∙◌, arith, append_assoc, append-nil, length-append}
+use Rattle.std.proofs.Common.{◌≡◌, ◌≤◌, ◌⊎◌, inl, inr, ℕ, List, [], ◌∷◌, ◌++◌, length, Option, refl, sym, ap, ◌∙◌}
+use Rattle.std.proofs.Common.{arith, append_assoc, append-nil, length-append}
 use Rattle.desk_ports.proofs.Appends.{Appended-none, Appended-then}
 use Rattle.text_lines.specs.LineReader.{LineReading}
 use Rattle.line_script.specs.declared.steps.Step.{Step}
 use Rattle.line_script.specs.Block.{outside}
-use Rattle.line_script.specs.declared.places.Place.TheVariants.{Local}
+use Rattle.script_words.specs.declared.places.Place.TheVariants.{Local}
 use Rattle.desk_state.specs.DeskState.{DeskState}
 use Rattle.script_replies.specs.Reply.{reply, after, shares_after}
 use Rattle.script_replies.specs.Script.{replies, state_after, shares_behind, AreInTurn}
-use Rattle.script_reading.specs.Reading.{Reads}
-use Rattle.script_reading.proofs.Going.{goes_first, goes_on, unread}
+use Rattle.script_replies.specs.Reading.{Reads}
+use Rattle.script_replies.proofs.Going.{goes_first, goes_on, unread}
 use Rattle.local_runs.specs.parts.Local.{AnswersNext}
 use Rattle.local_runs.specs.parts.Progress.{Progress, GoesOn}
 use Rattle.local_runs.specs.declared.local_script.LocalScript.{LocalScript}
-use Rattle.script_replies.proofs.Steps.{state_after-then, shares_behind-then, replies-next, in-turn-none, in-turn-more, in-turn-next}
+use Rattle.script_replies.proofs.Steps.{state_after-then, shares_behind-then, replies-next, in-turn-none, in-turn-more}
+use Rattle.script_replies.proofs.Steps.{in-turn-next}
 
 -- nothing was read yet
 pub goes-start : (Kept : List Step → Type 0) (start : DeskState) (left taken : Option (List ℕ)) (now : LocalScript)
@@ -33,7 +35,8 @@ goes-start Kept start left taken now reader none unshared kept =
     )
 
 module _ {start : DeskState} {left left_now left_after taken taken_now taken_after : Option (List ℕ)} {now new : LocalScript}
-    {desk desk_after : DeskState} {reading reading_after : LineReading} (p : Reads Local left left_now now.reader reading)
+    {desk desk_after : DeskState} {reading reading_after : LineReading}
+    (p : Reads Local left left_now now.reader reading)
     (a : Progress start taken taken_now now desk p.steps)
     (n : AnswersNext left_now left_after taken_now taken_after now new desk desk_after reading reading_after) where
   state_is : state_after start (p.steps ++ n.answers.step ∷ []) ≡ desk_after
@@ -47,7 +50,8 @@ module _ {start : DeskState} {left left_now left_after taken taken_now taken_aft
       shares_behind-then start [] p.steps (n.answers.step ∷ [])
       ∙ (λ i. shares_after (a.state i) (a.sharing i) n.answers.step) ∙ sym n.answers.done.sharing
 
-  answered_after : replies start [] (p.steps ++ n.answers.step ∷ []) ≡ (a.written ++ n.answers.done.hands.handed) ++ new.answers
+  answered_after : replies start [] (p.steps ++ n.answers.step ∷ [])
+      ≡ (a.written ++ n.answers.done.hands.handed) ++ new.answers
   answered_after =
       let done = n.answers.done in
       let handed = done.hands.handed in
@@ -69,7 +73,8 @@ module _ {start : DeskState} {left left_now left_after taken taken_now taken_aft
         | inr none ↦
             inr (omega (
               arith,
-              ap length (a.answered ∙ ap (λ answers. a.written ++ answers) (done.hands.parts ∙ ap (λ waiting. done.hands.handed ++ waiting) none)),
+              ap length (a.answered ∙ ap (λ answers. a.written ++ answers)
+                  (done.hands.parts ∙ ap (λ waiting. done.hands.handed ++ waiting) none)),
               ap length (append-nil done.hands.handed),
               length-append a.written (done.hands.handed ++ []),
               length-append a.written done.hands.handed,

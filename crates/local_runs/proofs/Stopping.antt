@@ -12,7 +12,8 @@ use Rattle.script_replies.specs.Script.{state_after}
 use Rattle.folder_runs.specs.Keeping.{KeepsSteps, KeepsSoFar, StandsStill, Moves}
 use Rattle.local_runs.specs.parts.Local.{Turns, step_of}
 use Rattle.run_endings.specs.declared.endings.Ending.{Ending}
-use Rattle.run_endings.specs.declared.endings.Ending.TheVariants.{Done, Memory, Words, Line, Source, Sink, Disk, Net, Damaged, Reply, TooLong}
+use Rattle.run_endings.specs.declared.endings.Ending.TheVariants.{Done, Memory, Words, Line, Source, Sink, Disk, Net}
+use Rattle.run_endings.specs.declared.endings.Ending.TheVariants.{Damaged, Reply, TooLong}
 use Rattle.local_runs.specs.declared.local_script.LocalScript.{LocalScript}
 use Rattle.local_runs.proofs.Answering.{KeptAt}
 use Rattle.folder_runs.proofs.Keeping.{so-far-ends, fails-over, keeps-rest}
@@ -34,9 +35,11 @@ module _ {D : Type 0} (state : D → Option DiskState) (moment : D → ℕ) (lef
 
   pub kept-at : (left_now left_after taken_now taken_after : Option (List ℕ)) (script new_script : LocalScript)
       (reading reading_after : LineReading)
-      → ((t : ℕ) (left : FileMap) → t ≤ moment new → WhereTold (state new) (λ after. MayLeave after left → left_since new t left))
+      → ((t : ℕ) (left : FileMap) → t ≤ moment new → WhereTold (state new)
+      (λ after. MayLeave after left → left_since new t left))
       → (ending : Ending)
-      → (turn : Turns left_now left_after taken_now taken_after script new_script desk now reading reading_after (Err ending))
+      → (turn : Turns left_now left_after taken_now taken_after script new_script desk now reading reading_after
+      (Err ending))
       → Moves state moment left_since mid new desk mid_held now new_held {A = Unit {0}}
       (after desk (step_of (step_at script.reader reading_after.line))) (Err ending)
       → KeptAt Keeps start left_now left_after taken_now taken_after script new_script desk now reading reading_after steps ending turn
@@ -45,7 +48,8 @@ module _ {D : Type 0} (state : D → Option DiskState) (moment : D → ℕ) (lef
       (ap (λ read. after desk (step_of read)) turn.fails.reads) counts_now moves
   kept-at left_now left_after taken_now taken_after script new_script reading reading_after counts_now Memory turn moves =
       still moves
-  kept-at left_now left_after taken_now taken_after script new_script reading reading_after counts_now (Line number) turn moves =
+  kept-at left_now left_after taken_now taken_after script new_script reading reading_after counts_now
+      (Line number) turn moves =
       still moves
   kept-at left_now left_after taken_now taken_after script new_script reading reading_after counts_now Source turn moves =
       still moves
@@ -57,7 +61,9 @@ module _ {D : Type 0} (state : D → Option DiskState) (moment : D → ℕ) (lef
       absurd turn
   kept-at left_now left_after taken_now taken_after script new_script reading reading_after counts_now Reply turn moves =
       absurd turn
-  kept-at left_now left_after taken_now taken_after script new_script reading reading_after counts_now (TooLong size) turn moves =
+  kept-at left_now left_after taken_now taken_after script new_script reading reading_after counts_now
+      (TooLong size) turn moves =
       absurd turn
-  kept-at left_now left_after taken_now taken_after script new_script reading reading_after counts_now (Damaged file line) turn moves =
+  kept-at left_now left_after taken_now taken_after script new_script reading reading_after counts_now
+      (Damaged file line) turn moves =
       absurd turn

@@ -1,11 +1,13 @@
 -- One turn of answering a script, from its parts.
-use Rattle.std.proofs.Common.{◌≡◌, ◌++◌, ◌∷◌, [], ℕ, true, false, List, Option, Ok, Err, inl, inr, refl, sym, ap, ◌∙◌, subst, append-nil, append_assoc}
+use Rattle.std.proofs.Common.{◌≡◌, ◌++◌, ◌∷◌, [], ℕ, true, false, List, Option, Ok, Err, inl, inr, refl, sym, ap, ◌∙◌}
+use Rattle.std.proofs.Common.{subst, append-nil, append_assoc}
 use Rattle.desk_ports.specs.Content.{Took, Appended, AppendedPart}
 use Rattle.desk_ports.proofs.Appends.{Appended-then, AppendedPart-then}
 use Rattle.text_lines.specs.Lines.{HasNoNewline}
 use Rattle.text_lines.specs.LineReader.{LineReading, HandsOut, HandsOutNext, Ends, EndsReading, has_line}
 use Rattle.text_lines.specs.declared.refusal.ReadRefusal.{ReadRefusal}
-use Rattle.text_lines.specs.declared.refusal.ReadRefusal.TheVariants.{PastLimit, Source as SourceFailed, Memory as NoMemory}
+use Rattle.text_lines.specs.declared.refusal.ReadRefusal.TheVariants.{PastLimit, Source as SourceFailed}
+use Rattle.text_lines.specs.declared.refusal.ReadRefusal.TheVariants.{Memory as NoMemory}
 use Rattle.text_lines.proofs.Newlines.{list_any-none}
 use Rattle.desk_state.specs.DeskState.{DeskState}
 use Rattle.line_script.specs.Grammar.{step_at}
@@ -14,7 +16,8 @@ use Rattle.run_endings.specs.Reading.{reading_ending}
 use Rattle.local_runs.specs.parts.Local.{Hands, HandsOver, AnswersLine, RefusesLine, Turns}
 use Rattle.local_runs.specs.declared.local_script.LocalScript.{LocalScript}
 use Rattle.run_endings.specs.declared.endings.Ending.{Ending}
-use Rattle.run_endings.specs.declared.endings.Ending.TheVariants.{Done, Memory, Words, Line, Source, Sink, Disk, Net, Damaged, Reply, TooLong}
+use Rattle.run_endings.specs.declared.endings.Ending.TheVariants.{Done, Memory, Words, Line, Source, Sink, Disk, Net}
+use Rattle.run_endings.specs.declared.endings.Ending.TheVariants.{Damaged, Reply, TooLong}
 
 front_is_nil : (xs ys : List ℕ) → [] ≡ xs ++ ys → xs ≡ []
 front_is_nil [] ys same = refl
@@ -63,13 +66,16 @@ Turns-unhanded left left_after taken taken_after old new desk reading reading_af
 Turns-unhanded left left_after taken taken_after old new desk reading reading_after Done handed took = absurd handed
 Turns-unhanded left left_after taken taken_after old new desk reading reading_after Memory handed took = absurd handed
 Turns-unhanded left left_after taken taken_after old new desk reading reading_after Words handed took = absurd handed
-Turns-unhanded left left_after taken taken_after old new desk reading reading_after (Line number) handed took = absurd handed
+Turns-unhanded left left_after taken taken_after old new desk reading reading_after
+    (Line number) handed took = absurd handed
 Turns-unhanded left left_after taken taken_after old new desk reading reading_after Source handed took = absurd handed
 Turns-unhanded left left_after taken taken_after old new desk reading reading_after Disk handed took = absurd handed
 Turns-unhanded left left_after taken taken_after old new desk reading reading_after Net handed took = absurd handed
 Turns-unhanded left left_after taken taken_after old new desk reading reading_after Reply handed took = absurd handed
-Turns-unhanded left left_after taken taken_after old new desk reading reading_after (TooLong size) handed took = absurd handed
-Turns-unhanded left left_after taken taken_after old new desk reading reading_after (Damaged file line) handed took = absurd handed
+Turns-unhanded left left_after taken taken_after old new desk reading reading_after
+    (TooLong size) handed took = absurd handed
+Turns-unhanded left left_after taken taken_after old new desk reading reading_after
+    (Damaged file line) handed took = absurd handed
 
 module _ (left left_after taken taken_mid : Option (List ℕ)) (old mid : LocalScript) (desk : DeskState)
     (reading reading_after : LineReading) (handed : HandsOver taken taken_mid old mid reading (Ok tt)) where
@@ -111,7 +117,8 @@ module _ (left left_after taken taken_mid : Option (List ℕ)) (old mid : LocalS
   module _ (taken_after : Option (List ℕ)) (new : LocalScript) (desk_after : DeskState)
       (line : HandsOut left left_after reading reading_after) (ends : EndsReading left left_after reading reading_after) where
     -- a line was handed out and answered
-    pub Turns-answered : (text : List ℕ) → text ≡ reading_after.line → AnswersLine taken_mid taken_after mid new desk desk_after text
+    pub Turns-answered : (text : List ℕ) → text ≡ reading_after.line
+        → AnswersLine taken_mid taken_after mid new desk desk_after text
         → Turns left left_after taken taken_after old new desk desk_after reading reading_after (Ok true)
     Turns-answered text same answered =
         let answers = subst (λ text. AnswersLine taken_mid taken_after mid new desk desk_after text) same answered in

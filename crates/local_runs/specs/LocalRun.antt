@@ -4,11 +4,11 @@ use Rattle.desk_ports.specs.Disk.{WhereTold}
 use Rattle.desk_state.specs.DeskState.{DeskState}
 use Rattle.desk_state.specs.Rules.{fault}
 use Rattle.desk_state.specs.declared.commands.Command.{Command}
-use Rattle.line_script.specs.declared.places.Place.TheVariants.{Local}
+use Rattle.script_words.specs.declared.places.Place.TheVariants.{Local}
 use Rattle.line_script.specs.declared.steps.Step.{Step}
 use Rattle.script_replies.specs.Reply.{command_in}
 use Rattle.script_replies.specs.Script.{Script, read_script, replies, state_after, AreInTurn}
-use Rattle.script_reading.specs.Reading.{ReadsLines, ReadsAllLines, ReadsWhole, MeetsWrongLine}
+use Rattle.script_replies.specs.Reading.{ReadsLines, ReadsAllLines, ReadsWhole, MeetsWrongLine}
 use Rattle.run_endings.specs.Outside.{SourceSeen, DiskSeen, HadInput}
 use Rattle.run_endings.specs.Saying.{Said}
 use Rattle.folder_runs.specs.Folder.{RefusesFolder, KeepsFolder}
@@ -33,12 +33,13 @@ HasRead ending input rest steps = ⊥
 
 -- ---- what was answered
 
--- Each step that was read was answered; but where a call of the disk failed, all up to a last one, which is a command, or comes
--- to one, that was accepted and not committed.
+-- Each step that was read was answered; but where a call of the disk failed, all up to a last one, which is a command,
+-- or comes to one, that was accepted and not committed.
 abbrev pub AreAnswered : Ending → DeskState → List Step → List Step → Type 0
 AreAnswered Disk start answered steps =
     (last : Step) × (command : Command) × (steps ≡ answered ++ last ∷ [])
-    × (command_in (state_after start answered) last ≡ Some command) × (fault (state_after start answered) command ≡ None)
+    × (command_in (state_after start answered) last ≡ Some command)
+    × (fault (state_after start answered) command ≡ None)
 AreAnswered ending start answered steps = steps ≡ answered
 
 -- The script of the source was answered from this state on. No share is open at first.

@@ -2,7 +2,7 @@
 ghost use Rattle.std.specs.Prelude.{◌≡◌, []};
 ghost use Rattle.desk_keeper.specs.Keeper.{disk_of, held_of, IsDecided, IsSameDisk};
 ghost use Rattle.line_script.specs.Block.{outside};
-ghost use Rattle.line_script.specs.declared.places.Place.TheVariants.{Local};
+ghost use Rattle.script_words.specs.declared.places.Place.TheVariants.{Local};
 ghost use Rattle.run_endings.specs.Ending.{source_faults_after, disk_faults_after};
 ghost use Rattle.run_endings.specs.Outside.{source_seen, sink_seen, disk_seen};
 ghost use Rattle.run_endings.specs.Saying.{Said, WritesAnswers};
@@ -10,7 +10,7 @@ ghost use Rattle.folder_runs.specs.Keeping.{counts_disk, KeepsSteps};
 ghost use Rattle.script_replies.specs.Folded.{unasked};
 ghost use Rattle.local_runs.specs.LocalRun.{AnswersScript, RunsLocal};
 ghost use Rattle.local_runs.specs.parts.Local.{counts_sink};
-ghost use Rattle.script_reading.specs.NextLine.{counts_source};
+ghost use Rattle.script_replies.specs.NextLine.{counts_source};
 ghost use Rattle.local_runs.specs.parts.Progress.{Answers, ending_of};
 ghost use Rattle.local_runs.specs.parts.Finish.{Finishes};
 
@@ -24,8 +24,8 @@ use script_replies::{MOST_SCRIPT_BYTES, note_open_block};
 use std::alloc::Global;
 use text_lines::LineReader;
 
-/// Mounts the folder, and answers the script of the source over it. What is answered when memory runs out, or at a wrong
-/// line, is still written.
+/// Mounts the folder, and answers the script of the source over it. What is answered when memory runs out, or at a
+/// wrong line, is still written.
 pub fn run_local<S: Source, K: Sink, D: Disk>(
     alloc: Global,
     source: &mut S,
@@ -110,7 +110,8 @@ fn answer_script<S: Source, K: Sink, D: Disk>(
 
 // Has the sink take the answers that wait where memory ran out, or before the number of a wrong line. How the run ends.
 fn finish<K: Sink>(script: &mut LocalScript, ending: Ending, sink: &mut K) -> Ending
-    ensures { Finishes (K.taken sink.old) (K.taken sink.new) (K.faults sink.old) (K.faults sink.new) script.old.answers ending result }
+    ensures { Finishes (K.taken sink.old) (K.taken sink.new) (K.faults sink.old) (K.faults sink.new)
+        script.old.answers ending result }
 {
     match ending {
         Ending::Memory => {

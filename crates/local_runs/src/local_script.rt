@@ -4,7 +4,7 @@ ghost use Rattle.desk_state.specs.Next.{next};
 ghost use Rattle.desk_keeper.specs.Keeper.{disk_of, held_of, IsDecided, IsSameDisk};
 ghost use Rattle.line_script.specs.Block.{outside};
 ghost use Rattle.line_script.specs.Grammar.{step_at};
-ghost use Rattle.line_script.specs.declared.places.Place.TheVariants.{Local};
+ghost use Rattle.script_words.specs.declared.places.Place.TheVariants.{Local};
 ghost use Rattle.line_script.specs.Turn.{AsksRequest};
 ghost use Rattle.line_script.specs.declared.steps.Step.TheVariants as step;
 ghost use Rattle.local_runs.specs.parts.Local.{is_question};
@@ -30,8 +30,8 @@ use script_replies::{
 use std::alloc::Global;
 use text_lines::LineReader;
 
-/// Where the reading of a script stands, the answers that the sink hasn't taken yet, the shares that are open, and the rules of
-/// the policy state and of these shares; and what is to be told of its lines beside their answers.
+/// Where the reading of a script stands, the answers that the sink hasn't taken yet, the shares that are open, and the
+/// rules of the policy state and of these shares; and what is to be told of its lines beside their answers.
 #[derive(Drop)]
 pub struct LocalScript {
     alloc: Global,
@@ -46,7 +46,7 @@ impl LocalScript {
     ghost use Rattle.local_runs.specs.parts.Local.{IsSameScript, step_of, Turns, Flushes};
     ghost use Rattle.local_runs.specs.parts.Local.{HandsOver, AnswersStep, RefusesStep, AnswersLine, RefusesLine};
     ghost use Rattle.local_runs.specs.parts.Local.{counts_sink};
-    ghost use Rattle.script_reading.specs.NextLine.{counts_source};
+    ghost use Rattle.script_replies.specs.NextLine.{counts_source};
     ghost use Rattle.script_replies.specs.Folded.{AreFolded};
     ghost use Rattle.folder_runs.specs.Keeping.{counts_disk, UnlessDisk, Moves};
 
@@ -131,8 +131,10 @@ impl LocalScript {
         requires folded { AreFolded self.old.rules keeper.old.desk self.old.shares }
 
         ensures line { MatchResult result
-            (λ _. AnswersLine (K.taken sink.old) (K.taken sink.new) self.old self.new keeper.old.desk keeper.new.desk line.now)
-            (RefusesLine (K.taken sink.old) (K.taken sink.new) self.old self.new keeper.old.desk keeper.new.desk line.now number) }
+            (λ _. AnswersLine (K.taken sink.old)
+            (K.taken sink.new) self.old self.new keeper.old.desk keeper.new.desk line.now)
+            (RefusesLine (K.taken sink.old)
+            (K.taken sink.new) self.old self.new keeper.old.desk keeper.new.desk line.now number) }
         ensures sink { K.faults sink.new ≡ counts_sink result (K.faults sink.old) }
         ensures folded { AreFolded self.new.rules keeper.new.desk self.new.shares }
 
@@ -165,8 +167,10 @@ impl LocalScript {
         requires folded { AreFolded self.old.rules keeper.old.desk self.old.shares }
 
         ensures line { MatchResult result
-            (λ _. AnswersLine (K.taken sink.old) (K.taken sink.new) self.old self.new keeper.old.desk keeper.new.desk line.now)
-            (RefusesLine (K.taken sink.old) (K.taken sink.new) self.old self.new keeper.old.desk keeper.new.desk line.now number) }
+            (λ _. AnswersLine (K.taken sink.old)
+            (K.taken sink.new) self.old self.new keeper.old.desk keeper.new.desk line.now)
+            (RefusesLine (K.taken sink.old)
+            (K.taken sink.new) self.old self.new keeper.old.desk keeper.new.desk line.now number) }
         ensures sink { K.faults sink.new ≡ counts_sink result (K.faults sink.old) }
         ensures folded { AreFolded self.new.rules keeper.new.desk self.new.shares }
 
@@ -315,8 +319,8 @@ impl LocalScript {
         self.obey(&command, keeper, sink)
     }
 
-    // Applies a command. What is accepted is committed before its answer waits, and all earlier answers are taken before it
-    // is committed.
+    // Applies a command. What is accepted is committed before its answer waits, and all earlier answers are taken
+    // before it is committed.
     fn obey<K: Sink, D: Disk>(
         &mut self,
         command: &Command,

@@ -15,26 +15,30 @@ use Rattle.monitor_journal.specs.declared.writing.Writing.TheVariants.{GoesOn, S
 abbrev pub entries_text : List Entry → List ℕ
 entries_text entries = flat_map entry_text entries
 
--- This text was to be written. Where the writing goes on, the sink took all of it; where a call of the sink failed, a front of it,
--- and not all; where memory was wanting, a front of it. Where the writing did not go on before, nothing is written.
+-- This text was to be written. Where the writing goes on, the sink took all of it; where a call of the sink failed, a
+-- front of it, and not all; where memory was wanting, a front of it. Where the writing did not go on before, nothing is
+-- written.
 abbrev pub Writes : Writing → List ℕ → SinkSeen → Writing → SinkSeen → Type 0
 Writes GoesOn text before GoesOn after = (after.faults ≡ before.faults) × Appended before.taken text after.taken
-Writes GoesOn text before SinkFailed after = (after.faults ≡ next_count before.faults) × AppendedPart before.taken text after.taken
+Writes GoesOn text before SinkFailed after =
+    (after.faults ≡ next_count before.faults) × AppendedPart before.taken text after.taken
 Writes GoesOn text before OutOfMemory after =
     (after.faults ≡ before.faults) × ((n : ℕ) × (n ≤ length text) × Appended before.taken (take n text) after.taken)
 Writes writing text before now after = (now ≡ writing) × (after ≡ before)
 
 -- So many entries at most were handed out, each of a worker that has a recorder, and their lines were to be written.
-pub record HandsOn (most : ℕ) (reader reader_now : ReaderState) (writing now : Writing) (before after : SinkSeen) : Type 0 where
+pub record HandsOn (most : ℕ) (reader reader_now : ReaderState) (writing now : Writing) (before after : SinkSeen) :
+    Type 0 where
   pub entries : List Entry
   pub few : length entries ≤ most
   pub known : AreKnown reader.made entries
   pub handed : reader_now ≡ record reader { handed = reader.handed ++ entries }
   pub written : Writes writing (entries_text entries) before now after
 
--- Entries were handed out in so many turns, at most 1,024 in each, each of a worker that has a recorder, and their lines were to be
--- written.
-pub record Journals (turns : ℕ) (reader reader_now : ReaderState) (writing now : Writing) (before after : SinkSeen) : Type 0 where
+-- Entries were handed out in so many turns, at most 1,024 in each, each of a worker that has a recorder, and their
+-- lines were to be written.
+pub record Journals (turns : ℕ) (reader reader_now : ReaderState) (writing now : Writing) (before after : SinkSeen) :
+    Type 0 where
   pub entries : List Entry
   pub few : length entries ≤ 1024 * turns
   pub known : AreKnown reader.made entries
@@ -45,9 +49,10 @@ pub record Journals (turns : ℕ) (reader reader_now : ReaderState) (writing now
 abbrev pub missed_lines : List RecorderState → List ℕ
 missed_lines recorders = flat_map (λ recorder. missed_text recorder.worker recorder.missed) recorders
 
--- The recorders have ended: what was left was to be written, so that what each put was handed out before or is written here, and
--- nothing of another worker; and then how many checks of each were missed.
-pub record EndsJournal (reader : ReaderState) (recorders : List RecorderState) (writing now : Writing) (before after : SinkSeen) : Type 0 where
+-- The recorders have ended: what was left was to be written, so that what each put was handed out before or is written
+-- here, and nothing of another worker; and then how many checks of each were missed.
+pub record EndsJournal (reader : ReaderState) (recorders : List RecorderState) (writing now : Writing)
+    (before after : SinkSeen) : Type 0 where
   pub left : List Entry
   pub whole : AreWhole (reader.handed ++ left) recorders
   pub known : AreKnown reader.made left

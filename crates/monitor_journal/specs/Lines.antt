@@ -1,5 +1,6 @@
 -- The exact texts of the lines that a run of `watch` writes. Each is one line with its newline.
-use Rattle.std.specs.Prelude.{ℕ, ◌+◌, ◌/◌, ◌%◌, Bool, if◌then◌else◌, List, [], ◌∷◌, ◌++◌, Option, Some, None, decimal, codes}
+use Rattle.std.specs.Prelude.{ℕ, ◌+◌, ◌/◌, ◌%◌, Bool, if◌then◌else◌, List, []}
+use Rattle.std.specs.Prelude.{◌∷◌, ◌++◌, Option, Some, None, decimal, codes}
 use Rattle.cynara_keys.specs.declared.results.Kind.{Kind}
 use Rattle.bucket_eval.specs.declared.answers.Cause.{Cause}
 use Rattle.bucket_eval.specs.declared.answers.Row.{Row}
@@ -35,8 +36,10 @@ four_digits number = digit 1000 number ∷ three_digits number
 
 -- a moment as the internet writes dates and times, as `2026-12-01T07:46:10.123Z`
 abbrev pub moment_text : Moment → List ℕ
-moment_text moment = four_digits moment.year ++ (codes "-" ++ (two_digits moment.month ++ (codes "-" ++ (two_digits moment.day
-    ++ (codes "T" ++ (two_digits moment.hour ++ (codes ":" ++ (two_digits moment.minute ++ (codes ":" ++ (two_digits moment.second
+moment_text moment = four_digits moment.year
+    ++ (codes "-" ++ (two_digits moment.month ++ (codes "-" ++ (two_digits moment.day
+    ++ (codes "T" ++ (two_digits moment.hour
+    ++ (codes ":" ++ (two_digits moment.minute ++ (codes ":" ++ (two_digits moment.second
     ++ (codes "." ++ (three_digits moment.millisecond ++ codes "Z"))))))))))))
 
 -- the time, or `-` where the clock told none
@@ -77,7 +80,8 @@ check_text entry = answer_text entry.allowed entry.commit entry.client entry.use
 -- a check: `monitor WORKER NUMBER RESULT COMMIT CLIENT USER PRIVILEGE TIME BY`, and the cause
 unfoldable pub entry_text : Entry → List ℕ
 entry_text entry =
-    codes "monitor " ++ (decimal entry.worker ++ (codes " " ++ (decimal entry.number ++ (codes " " ++ check_text entry))))
+    codes "monitor " ++ (decimal entry.worker
+    ++ (codes " " ++ (decimal entry.number ++ (codes " " ++ check_text entry))))
 
 -- how many checks of a worker were missed: `missed WORKER COUNT`
 unfoldable pub missed_text : ℕ → ℕ → List ℕ

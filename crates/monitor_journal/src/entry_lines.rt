@@ -1,7 +1,8 @@
-// The lines that a run of `watch` writes: one for each check that was recorded, and at the end one for each worker with the count
-// of its checks that were missed.
+// The lines that a run of `watch` writes: one for each check that was recorded, and at the end one for each worker with
+// the count of its checks that were missed.
 ghost use Rattle.std.specs.Prelude.{◌≡◌, ◌++◌, OnOk, OnErr};
-ghost use Rattle.monitor_journal.specs.Lines.{decision_text, names_text, answer_text, check_text, entry_text, missed_text};
+ghost use Rattle.monitor_journal.specs.Lines.{decision_text, names_text, answer_text};
+ghost use Rattle.monitor_journal.specs.Lines.{check_text, entry_text, missed_text};
 ghost use Rattle.monitor_journal.specs.parts.Appending.{Lengthens};
 
 use crate::causes::append_decided;
@@ -10,8 +11,8 @@ use desk_ports::Bytes;
 use monitor_rule::Entry;
 use std::alloc::AllocError;
 
-/// Appends the line of a check that was recorded, `monitor WORKER NUMBER RESULT COMMIT CLIENT USER PRIVILEGE TIME BY` and the
-/// cause. Fails for want of memory alone, and has then appended nothing.
+/// Appends the line of a check that was recorded, `monitor WORKER NUMBER RESULT COMMIT CLIENT USER PRIVILEGE TIME BY`
+/// and the cause. Fails for want of memory alone, and has then appended nothing.
 pub(crate) fn append_entry(out: &mut Bytes, entry: &Entry) -> Result<(), AllocError>
     ensures ok { OnOk result (out.new ≡ out.old ++ entry_text entry.now) }
     ensures err { OnErr result (out.new ≡ out.old) }
@@ -26,7 +27,8 @@ pub(crate) fn append_entry(out: &mut Bytes, entry: &Entry) -> Result<(), AllocEr
     }
 }
 
-/// Appends the line that says how many checks of a worker were missed, `missed WORKER COUNT`. Fails as `append_entry` does.
+/// Appends the line that says how many checks of a worker were missed, `missed WORKER COUNT`. Fails as `append_entry`
+/// does.
 pub(crate) fn append_missed(out: &mut Bytes, worker: u32, count: u64) -> Result<(), AllocError>
     ensures ok { OnOk result (out.new ≡ out.old ++ missed_text worker count) }
     ensures err { OnErr result (out.new ≡ out.old) }

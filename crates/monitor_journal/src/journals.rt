@@ -14,7 +14,8 @@ use std::sync::Wait;
 /// How many entries are written at once, at most.
 pub const MOST_AT_ONCE: u32 = 1_024;
 
-/// Hands out the entries that are there, at most 1,024, and writes a line for each. The room is for the lines. It may wait.
+/// Hands out the entries that are there, at most 1,024, and writes a line for each. The room is for the lines. It may
+/// wait.
 pub fn hand_on<R: Wait, K: Sink>(
     rt: &R,
     room: &mut Bytes,
@@ -81,7 +82,8 @@ pub(crate) fn spell(room: &mut Bytes, writing: Writing, entry: &Entry) -> Writin
 
 /// Writes what was spelled.
 pub(crate) fn write_room<K: Sink>(room: &Bytes, writing: Writing, sink: &mut K) -> Writing
-    ensures { Writes writing room.now (sink_seen K.taken K.faults sink.old) result (sink_seen K.taken K.faults sink.new) }
+    ensures { Writes writing room.now (sink_seen K.taken K.faults sink.old) result
+        (sink_seen K.taken K.faults sink.new) }
 {
     match writing {
         Writing::GoesOn => match write_all(sink, room.as_slice()) {

@@ -13,8 +13,8 @@ use desk_ports::{Bytes, Sink};
 use std::alloc::Global;
 use std::sync::Wait;
 
-/// Once all recorders of the reader have ended: writes a line for each entry that is left, and then for each recorder the line
-/// that says how many checks it missed. It may wait.
+/// Once all recorders of the reader have ended: writes a line for each entry that is left, and then for each recorder
+/// the line that says how many checks it missed. It may wait.
 pub fn write_end<R: Wait, K: Sink>(
     rt: &R,
     alloc: Global,

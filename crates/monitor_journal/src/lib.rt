@@ -1,5 +1,5 @@
-//! What is written of a monitor: a line for each check that its reader hands out, and at the end one for each worker with the
-//! count of its checks that were missed. After a call of the sink has failed nothing further is written.
+//! What is written of a monitor: a line for each check that its reader hands out, and at the end one for each worker
+//! with the count of its checks that were missed. After a call of the sink has failed nothing further is written.
 #![tactic(auto)]
 
 mod causes;

@@ -17,7 +17,8 @@ FitsRecorder seat all pass v = v.records ≡ true → (seat v.worker ≡ some pa
 abbrev pub IsFinal : (ℕ → Option ℕ) → List Entry → Account → Type 0
 IsFinal seat all account = (seat account.worker ≡ none) × (account.put ≡ of_worker account.worker all)
 
--- There is one reader. It handed out what was handed out, and no worker has put anything for which it made no recorder yet.
+-- There is one reader. It handed out what was handed out, and no worker has put anything for which it made no recorder
+-- yet.
 abbrev pub FitsReader : ℕ → (ℕ → Option ℕ) → List Entry → List Entry → ℕ → View → Type 0
 FitsReader reader seat handed all pass v = v.reads ≡ true
     → (pass ≡ reader) × (v.handed ≡ handed)

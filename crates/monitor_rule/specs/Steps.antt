@@ -1,7 +1,7 @@
--- The kinds of step, and what each tells. The passes are made: the reader's, and a recorder's at a time. A push changes the
--- recorder's view, a push that is refused changes none. A take changes the reader's view, one that finds nothing changes
--- none. A recorder that has ended is joined to the reader: their two views change. Once all were joined, a take also tells
--- what is left.
+-- The kinds of step, and what each tells. The passes are made: the reader's, and a recorder's at a time. A push changes
+-- the recorder's view, a push that is refused changes none. A take changes the reader's view, one that finds nothing
+-- changes none. A recorder that has ended is joined to the reader: their two views change. Once all were joined, a take
+-- also tells what is left.
 use Rattle.std.specs.Prelude.{◌≡◌, ◌<◌, ℕ, suc, true, false, List, [], ◌∷◌, ◌++◌, length}
 use Rattle.std.specs.List.{AllByRecursion}
 use mathlib.Core.Option.{some}
@@ -13,15 +13,45 @@ use Rattle.monitor_rule.specs.Entries.{of_worker}
 
 -- a reader that handed out nothing, and made no recorder
 abbrev pub new_reader : View
-new_reader = record { records = false; worker = 0; put = []; reads = true; handed = []; made = 0; joined = []; ends = false; left = [] }
+new_reader = record {
+  records = false;
+  worker = 0;
+  put = [];
+  reads = true;
+  handed = [];
+  made = 0;
+  joined = [];
+  ends = false;
+  left = [];
+}
 
 -- a recorder of this worker that put nothing
 abbrev pub new_recorder : ℕ → View
-new_recorder worker = record { records = true; worker = worker; put = []; reads = false; handed = []; made = 0; joined = []; ends = false; left = [] }
+new_recorder worker = record {
+  records = true;
+  worker = worker;
+  put = [];
+  reads = false;
+  handed = [];
+  made = 0;
+  joined = [];
+  ends = false;
+  left = [];
+}
 
 -- a pass that neither records nor reads any more
 abbrev pub ended : View
-ended = record { records = false; worker = 0; put = []; reads = false; handed = []; made = 0; joined = []; ends = false; left = [] }
+ended = record {
+  records = false;
+  worker = 0;
+  put = [];
+  reads = false;
+  handed = [];
+  made = 0;
+  joined = [];
+  ends = false;
+  left = [];
+}
 
 -- a recorder was made
 abbrev pub with_one_made : View → View
@@ -77,11 +107,12 @@ abbrev pub AreAllJoined : View → Type 0
 AreAllJoined v = (worker : ℕ) → worker < v.made → (place : ℕ) × (account : Account)
     × (get_elem? v.joined place ≡ some account) × (account.worker ≡ worker)
 
--- An entry was handed out, and what is left is known from then on: what each worker put are its entries that were handed
--- out before, and those of this entry and of what is left; and nothing of another worker is left.
+-- An entry was handed out, and what is left is known from then on: what each worker put are its entries that were
+-- handed out before, and those of this entry and of what is left; and nothing of another worker is left.
 abbrev pub TellsLeft : View → Entry → View → Type 0
 TellsLeft v entry w = (left : List Entry)
-    × (w ≡ with_left left (with_handed entry v)) × IsNumberedNext v entry × AreSettled v (entry ∷ left) × AreKnown v.made (entry ∷ left)
+    × (w ≡ with_left left (with_handed entry v)) × IsNumberedNext v entry × AreSettled v (entry ∷ left)
+    × AreKnown v.made (entry ∷ left)
 
 -- the first of what is left was handed out
 abbrev pub TakesLeft : View → Entry → View → Type 0

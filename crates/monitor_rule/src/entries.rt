@@ -5,9 +5,10 @@ use crate::moments::Moment;
 use bucket_eval::{Cause, Verdict};
 use cynara_keys::{Kind, Question, Short};
 
-/// A check that a worker answered: its worker, how many entries of that worker came before it, the names that were asked
-/// about, the commit of the answer, and whether the answer was ALLOW; when it was recorded, where the clock told; the kind of
-/// the agent that gave the answer, if one did; and the policy or fallback that gave it, or that left it to the agent.
+/// A check that a worker answered: its worker, how many entries of that worker came before it, the names that were
+/// asked about, the commit of the answer, and whether the answer was ALLOW; when it was recorded, where the clock told;
+/// the kind of the agent that gave the answer, if one did; and the policy or fallback that gave it, or that left it to
+/// the agent.
 #[derive(Clone, Copy, Debug, PartialEq, Eq)]
 pub struct Entry {
     pub worker: u32,

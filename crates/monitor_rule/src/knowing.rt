@@ -13,8 +13,8 @@ pub struct View {
     pub records: bool,
     pub worker: u32,
     pub put: [Entry; 0],
-    /// It is the reader's, which handed out these entries, made recorders for the workers below this number, and took in
-    /// these accounts of recorders that have ended.
+    /// It is the reader's, which handed out these entries, made recorders for the workers below this number, and took
+    /// in these accounts of recorders that have ended.
     pub reads: bool,
     pub handed: [Entry; 0],
     pub made: u32,

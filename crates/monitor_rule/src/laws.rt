@@ -1,11 +1,13 @@
-//! Each kind of step keeps the rule, whatever the other threads did before, and what it tells. These functions do nothing;
-//! their clauses are the laws, in the words of a queue under a rule.
+//! Each kind of step keeps the rule, whatever the other threads did before, and what it tells. These functions do
+//! nothing; their clauses are the laws, in the words of a queue under a rule.
 ghost use Rattle.std.specs.Prelude.{◌≡◌, ℕ, List, [], ◌∷◌, true, false};
 ghost use Rattle.crossbeam_queue.specs.Fifo.{Pushes, Pops, Forks, Merges, Learns};
 ghost use Rattle.monitor_rule.specs.declared.entries.Entry.{Entry};
 ghost use Rattle.monitor_rule.specs.declared.knowing.View.{View};
 ghost use Rattle.monitor_rule.specs.Rule.{Delivers};
-ghost use Rattle.monitor_rule.specs.Steps.{new_reader, new_recorder, ended, with_one_made, with_put, with_handed, with_joined, AreAllJoined, TellsLeft, TakesLeft, IsNext, IsKnown, IsNumberedNext, StandsIn, AreSettled};
+ghost use Rattle.monitor_rule.specs.Steps.{new_reader, new_recorder, ended, with_one_made, with_put, with_handed};
+ghost use Rattle.monitor_rule.specs.Steps.{with_joined, AreAllJoined, TellsLeft, TakesLeft, IsNext, IsKnown};
+ghost use Rattle.monitor_rule.specs.Steps.{IsNumberedNext, StandsIn, AreSettled};
 
 /// The queue is made, with a reader that handed out nothing.
 pub fn a_new_reader_keeps_the_rule()
@@ -30,15 +32,15 @@ pub fn a_recorder_is_told()
     ensures { (pass : ℕ) (v : View) → v.records ≡ true → Learns Delivers pass v (StandsIn v) }
 {}
 
-/// The reader takes an entry of a worker for which it made a recorder, whose number is the count of its worker's entries that
-/// were handed out before.
+/// The reader takes an entry of a worker for which it made a recorder, whose number is the count of its worker's
+/// entries that were handed out before.
 pub fn a_take_keeps_the_rule()
     ensures { (pass : ℕ) (v : View) → v.reads ≡ true → v.ends ≡ false
         → Pops Delivers pass v (λ entry w. (w ≡ with_handed entry v) × IsNumberedNext v entry × IsKnown v entry) }
 {}
 
-/// A reader that finds this in the queue keeps its view, and knows of each recorder that it took in: what its worker put
-/// are the worker's entries that were handed out and then those in the queue.
+/// A reader that finds this in the queue keeps its view, and knows of each recorder that it took in: what its worker
+/// put are the worker's entries that were handed out and then those in the queue.
 pub fn a_reader_is_told()
     ensures { (pass : ℕ) (v : View) → v.reads ≡ true → Learns Delivers pass v (AreSettled v) }
 {}

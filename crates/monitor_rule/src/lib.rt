@@ -1,6 +1,6 @@
-//! What the check monitor keeps of the checks that its workers answered: each worker puts entries into one queue, and one
-//! reader hands them out. In what was handed out, followed by what the queue holds, the entries of each worker are what
-//! that worker put, in its order.
+//! What the check monitor keeps of the checks that its workers answered: each worker puts entries into one queue, and
+//! one reader hands them out. In what was handed out, followed by what the queue holds, the entries of each worker are
+//! what that worker put, in its order.
 //!
 //! An entry has the time at which it was recorded, in UTC.
 //!

@@ -17,8 +17,8 @@ pub struct Moment {
 }
 
 impl Moment {
-    /// The moment that comes so many seconds after the beginning of 1970, without leap seconds, and so many thousandths. None
-    /// once the year 9999 has passed. Takes no memory.
+    /// The moment that comes so many seconds after the beginning of 1970, without leap seconds, and so many
+    /// thousandths. None once the year 9999 has passed. Takes no memory.
     pub fn at(seconds: u64, millisecond: u16) -> Option<Moment>
         ensures { MatchOption result (253402300800 ≤ seconds) (IsAt seconds millisecond) }
     {

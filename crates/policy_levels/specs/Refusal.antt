@@ -9,7 +9,8 @@ use Rattle.level_requests.specs.declared.requests.Setter.{Setter}
 use Rattle.level_requests.specs.declared.requests.Setter.TheVariants.{Own, Administrator}
 use Rattle.level_requests.specs.declared.requests.LevelRequest.{LevelRequest}
 use Rattle.policy_levels.specs.declared.refusals.LevelRefusal.{LevelRefusal}
-use Rattle.policy_levels.specs.declared.refusals.LevelRefusal.TheVariants.{NoLayout, UnknownUser, NotAdministrator, Memory}
+use Rattle.policy_levels.specs.declared.refusals.LevelRefusal.TheVariants.{NoLayout, UnknownUser}
+use Rattle.policy_levels.specs.declared.refusals.LevelRefusal.TheVariants.{NotAdministrator, Memory}
 
 -- users of these types set levels for others
 abbrev pub administers : UserType → Bool
@@ -32,8 +33,8 @@ abbrev pub caller_fault : RegistryLists → LevelRequest → Option UserType →
 caller_fault registry request None = Some (UnknownUser request.caller)
 caller_fault registry request (Some kind) = setter_fault registry kind request.by
 
--- The first of: there is no layout; the caller is not registered; an administrator's request by a caller who is none; its
--- target is not registered.
+-- The first of: there is no layout; the caller is not registered; an administrator's request by a caller who is none;
+-- its target is not registered.
 abbrev pub fault : DeskState → LevelRequest → Option LevelRefusal
 fault desk request =
     if has_layout desk.database then caller_fault desk.registry request (kind_of desk.registry request.caller)

@@ -1,7 +1,8 @@
 ghost use Rattle.std.specs.Prelude.{◌≡◌, ◌∷◌, [], Some, None, IfOk, IfErr, OnOk, codes};
 ghost use Rattle.cynara_keys.specs.PolicyResult.{Ruling};
 ghost use Rattle.desk_state.specs.Next.{next};
-ghost use Rattle.policy_levels.specs.Command.{result_of, user_of, bucket_of, uid_of, key_of, change_to, change_of, command_of};
+ghost use Rattle.policy_levels.specs.Command.{result_of, user_of, bucket_of, uid_of};
+ghost use Rattle.policy_levels.specs.Command.{key_of, change_to, change_of, command_of};
 ghost use Rattle.policy_levels.specs.Isolation.{ConcernsAlone};
 ghost use Rattle.policy_levels.specs.Refusal as rule;
 
@@ -19,10 +20,11 @@ use std::alloc::{AllocError, Global};
 /// The kind of the agent that asks a person.
 const ASKS: u16 = 10;
 
-/// The command that sets the level: one policy for the application, the one user and the privilege, in the root bucket for a
-/// user's own level and in `ADMIN` for an administrator's. Refuses, in this order, `NoLayout`, `UnknownUser` of the caller,
-/// `NotAdministrator` where an administrator's request comes from a user who is neither system nor admin, and `UnknownUser`
-/// of the target. The command concerns its user alone: no other user's policies change, and no answer to one.
+/// The command that sets the level: one policy for the application, the one user and the privilege, in the root bucket
+/// for a user's own level and in `ADMIN` for an administrator's. Refuses, in this order, `NoLayout`, `UnknownUser` of
+/// the caller, `NotAdministrator` where an administrator's request comes from a user who is neither system nor admin,
+/// and `UnknownUser` of the target. The command concerns its user alone: no other user's policies change, and no answer
+/// to one.
 pub fn level_command(
     alloc: Global,
     desk: &Desk,

@@ -2,8 +2,8 @@ use app_registry::UserType;
 use std::alloc::AllocError;
 use thiserror::Error;
 
-/// Why a request for a level is refused: the first of these that stands against it, in this order, but that `UnknownUser`
-/// comes behind `NotAdministrator` for the target.
+/// Why a request for a level is refused: the first of these that stands against it, in this order, but that
+/// `UnknownUser` comes behind `NotAdministrator` for the target.
 #[derive(Clone, Copy, Debug, PartialEq, Eq, Error)]
 pub enum LevelRefusal {
     #[error("there is no layout yet")]

@@ -6,7 +6,8 @@ use Rattle.app_registry.specs.Registry.{RegistryLists}
 use Rattle.private_sharing.specs.Shares.{count_of, opened}
 use Rattle.private_sharing.specs.declared.shares.Share.{Share}
 use Rattle.private_sharing.specs.declared.refusals.ShareRefusal.{ShareRefusal}
-use Rattle.private_sharing.specs.declared.refusals.ShareRefusal.TheVariants.{UnknownApp, SameLabel, NotShared, Most, Memory}
+use Rattle.private_sharing.specs.declared.refusals.ShareRefusal.TheVariants.{UnknownApp, SameLabel, NotShared}
+use Rattle.private_sharing.specs.declared.refusals.ShareRefusal.TheVariants.{Most, Memory}
 
 -- how often a share may be open, and how many shares there may be
 abbrev pub most_opens : ℕ
@@ -22,14 +23,16 @@ limit_fault owner target name shares =
     else (if nat_lt most_shares (length (opened owner target name shares)) then Some (Most most_shares) else None)
 
 -- what the labels of the two say, none where an application is not installed; else the limits
-abbrev pub labels_fault : List ℕ → List ℕ → Option (List ℕ) → Option (List ℕ) → Option ShareRefusal → Option ShareRefusal
+abbrev pub labels_fault : List ℕ → List ℕ → Option (List ℕ) → Option (List ℕ) → Option ShareRefusal
+    → Option ShareRefusal
 labels_fault owner target None other limit = Some (UnknownApp owner)
 labels_fault owner target (Some own) None limit = Some (UnknownApp target)
 labels_fault owner target (Some own) (Some other) limit = if same_text own other then Some (SameLabel own) else limit
 
 abbrev pub open_fault : RegistryLists → List ℕ → List ℕ → List ℕ → List Share → Option ShareRefusal
 open_fault registry owner target name shares =
-    labels_fault owner target (label_of registry owner) (label_of registry target) (limit_fault owner target name shares)
+    labels_fault owner target (label_of registry owner) (label_of registry target)
+    (limit_fault owner target name shares)
 
 abbrev pub close_fault : List ℕ → List ℕ → List ℕ → List Share → Option ShareRefusal
 close_fault owner target name shares = if count_of owner target name shares == 0 then Some NotShared else None

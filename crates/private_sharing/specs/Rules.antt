@@ -14,14 +14,38 @@ share_label «package» name = package_label «package» ++ (codes "::Share::" +
 
 -- `rwxatl`
 abbrev pub owner_modes : Modes
-owner_modes = record { read = true; write = true; execute = true; append = true; transmute = true; lock = true; bring_up = false }
+owner_modes = record {
+  read = true;
+  write = true;
+  execute = true;
+  append = true;
+  transmute = true;
+  lock = true;
+  bring_up = false;
+}
 
 -- `rxl`
 abbrev pub target_modes : Modes
-target_modes = record { read = true; write = false; execute = true; append = false; transmute = false; lock = true; bring_up = false }
+target_modes = record {
+  read = true;
+  write = false;
+  execute = true;
+  append = false;
+  transmute = false;
+  lock = true;
+  bring_up = false;
+}
 
 abbrev pub no_modes : Modes
-no_modes = record { read = false; write = false; execute = false; append = false; transmute = false; lock = false; bring_up = false }
+no_modes = record {
+  read = false;
+  write = false;
+  execute = false;
+  append = false;
+  transmute = false;
+  lock = false;
+  bring_up = false;
+}
 
 -- a rule that gives modes and takes nothing away
 abbrev pub giving : List ℕ → List ℕ → Modes → Rule

@@ -36,7 +36,12 @@ pub record IsShares (shares : List Share) : Type 0 where
 -- opened once more
 abbrev pub opened : List ℕ → List ℕ → List ℕ → List Share → List Share
 opened owner target name shares =
-    placed share_cmp (record { owner = owner; target = target; name = name; count = count_of owner target name shares + 1 }) shares
+    placed share_cmp (record {
+      owner = owner;
+      target = target;
+      name = name;
+      count = count_of owner target name shares + 1;
+    }) shares
 
 -- a share that is open once less, where it is this one
 abbrev pub lessened : List ℕ → List ℕ → List ℕ → Share → Share

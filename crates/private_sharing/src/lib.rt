@@ -1,7 +1,7 @@
 //! Private sharing: an application shares a named place with another one, as long as a share is open.
 //!
-//! That the owner writes and the target reads is the idea of security-manager's private sharing; that a share is counted, the
-//! label of the place, the limits and the order of the refusals are this project's profile.
+//! That the owner writes and the target reads is the idea of security-manager's private sharing; that a share is
+//! counted, the label of the place, the limits and the order of the refusals are this project's profile.
 #![tactic(auto)]
 
 mod labels;

@@ -29,8 +29,8 @@ pub struct Share {
     pub count: u32,
 }
 
-/// The shares that are open, in the order of owner, target and name. A call that changes them gives the changed shares and
-/// leaves these as they are; so does a refusal.
+/// The shares that are open, in the order of owner, target and name. A call that changes them gives the changed shares
+/// and leaves these as they are; so does a refusal.
 #[derive(Debug, Drop)]
 pub struct Shares {
     items: Vec<Share>,
@@ -66,9 +66,9 @@ impl Shares {
         &self.items
     }
 
-    /// The shares with this one open once more. Refuses, in this order, `UnknownApp` of the owner and then of the target where
-    /// it is not installed, `SameLabel` where both have one label, and `Most` where the share would be open more than
-    /// `MOST_OPENS` times, or where there would be more than `MOST_SHARES`.
+    /// The shares with this one open once more. Refuses, in this order, `UnknownApp` of the owner and then of the
+    /// target where it is not installed, `SameLabel` where both have one label, and `Most` where the share would be
+    /// open more than `MOST_OPENS` times, or where there would be more than `MOST_SHARES`.
     pub fn open(
         &self,
         registry: &Registry,
@@ -97,8 +97,8 @@ impl Shares {
         Ok(Shares { items })
     }
 
-    /// The shares with this one open once less; it goes where it is open no more. Refuses `NotShared` where there is no such
-    /// share.
+    /// The shares with this one open once less; it goes where it is open no more. Refuses `NotShared` where there is no
+    /// such share.
     pub fn close(&self, owner: &Ident, target: &Ident, name: &Ident) -> Result<Shares, ShareRefusal>
         ensures shares { IfOk result (λ shares. shares ≡ closed owner.now target.now name.now self.now) }
         ensures accepted { OnOk result (close_fault owner.now target.now name.now self.now ≡ None) }
@@ -129,8 +129,9 @@ impl Shares {
         count_of(&self.items, owner, target, name)
     }
 
-    /// The Smack rules that the shares give, in their order: for each share of which both applications are installed, the
-    /// owner's label gets `rwxatl` on the label of what is shared, and the target's label `rxl`. No rule takes anything away.
+    /// The Smack rules that the shares give, in their order: for each share of which both applications are installed,
+    /// the owner's label gets `rwxatl` on the label of what is shared, and the target's label `rxl`. No rule takes
+    /// anything away.
     pub fn rules(&self, registry: &Registry) -> Result<Vec<Rule>, AllocError>
         ensures { IfOk result (λ given. given.items ≡ rules registry.now self.now) }
     {
@@ -165,7 +166,8 @@ impl Shares {
 fn test_labels(registry: &Registry, owner: &Ident, target: &Ident) -> Result<(), ShareRefusal>
     ensures accepted { OnOk result (labels_fault owner.now target.now
         (label_of registry.now owner.now) (label_of registry.now target.now) None ≡ None) }
-    ensures refused { IfErr result (λ refusal. (limit : Option ShareRefusal) → Refuses refusal (labels_fault owner.now target.now
+    ensures refused { IfErr result
+        (λ refusal. (limit : Option ShareRefusal) → Refuses refusal (labels_fault owner.now target.now
         (label_of registry.now owner.now) (label_of registry.now target.now) limit)) }
 {
     let Some(own) = registry.label_of(owner).map_err(ShareRefusal::Memory)? else {

@@ -31,7 +31,8 @@ pub(crate) fn get_levels<K: Sink>(
     }
 }
 
-// The levels that the user of this number has set: a line `CLIENT PRIVILEGE LEVEL` for each, in the order of their keys.
+// The levels that the user of this number has set: a line `CLIENT PRIVILEGE LEVEL` for each, in the order of their
+// keys.
 fn list_levels(alloc: Global, desk: &Desk, user: u32) -> Result<Bytes, AllocError> {
     let mut out = Bytes::new(alloc);
     for row in levels_of(alloc, desk, user)? {

@@ -99,7 +99,8 @@ fn status_of<K: Sink>(rt: &HostRuntime, alloc: Global, seconds: u32, sink: &mut 
     test_service(alloc, &mut net, sink)
 }
 
-// Tells what the service says of itself, or that it doesn't tell it: one that is older ends the connection at the question.
+// Tells what the service says of itself, or that it doesn't tell it: one that is older ends the connection at the
+// question.
 fn tell_service<K: Sink>(alloc: Global, net: &mut SocketNet<HostRuntime>, sink: &mut K) -> u8 {
     match service_seen(alloc, net) {
         Ok(seen) => {

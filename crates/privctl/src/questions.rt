@@ -5,7 +5,7 @@ use crate::telling::{NOT_DONE, WRONG_WORDS, tell_wrong};
 use ctl_words::Asked;
 use cynara_keys::{Name, NameRefusal, Question};
 use desk_ports::Sink;
-use line_script::read_number;
+use script_words::read_number;
 use std::alloc::Global;
 
 /// The question of the names. Else a person is told which word is none, or that memory is wanting, and the status is
@@ -16,7 +16,11 @@ pub(crate) fn question_of<K: Sink>(
     sink: &mut K,
 ) -> Result<Question, u8>
     ensures { IfOk result (λ question. question ≡
-        record { client = asked.entry.client.now; user = asked.entry.user.now; privilege = asked.entry.privilege.now }) }
+        record {
+          client = asked.entry.client.now;
+          user = asked.entry.user.now;
+          privilege = asked.entry.privilege.now;
+        }) }
 {
     let client = name_of(alloc, asked.client, sink)?;
     let user = name_of(alloc, asked.user, sink)?;

@@ -19,8 +19,8 @@ use Rattle.run_endings.proofs.Hads.{Took-Had}
 use Rattle.command_words.specs.Commands.{command_of}
 use Rattle.command_words.specs.declared.commands.Command.{Command}
 use Rattle.command_words.specs.declared.commands.Command.TheVariants.{Local, Serve, Watch, Check, Simple, Admin, Agent, SmackAccess, SmackLoad, Sample}
-use Rattle.line_script.specs.declared.places.Place.TheVariants.{Admin as Admin_place}
-use Rattle.script_reading.proofs.Ending.{ends_unread}
+use Rattle.script_words.specs.declared.places.Place.TheVariants.{Admin as Admin_place}
+use Rattle.script_replies.proofs.Ending.{ends_unread}
 use Rattle.folder_runs.specs.Folder.{RefusesFolder}
 use Rattle.serve_runs.specs.Run.RunsServe.{refused}
 use Rattle.admin_runs.proofs.Turns.{in_turn_none}

@@ -20,7 +20,7 @@ use Rattle.command_words.specs.Commands.{uses_net}
 use Rattle.command_words.specs.declared.commands.Command.{Command}
 use Rattle.command_words.specs.declared.commands.Command.TheVariants.{Local, Serve, Watch, Check, Simple, Admin, Agent, SmackAccess, SmackLoad, Sample}
 use Rattle.script_replies.specs.Script.{wrong_line, replies}
-use Rattle.script_replies.specs.Reply.{decided_text}
+use Rattle.line_answers.specs.Answers.{decided_text}
 use Rattle.folder_runs.specs.Folder.{StandsFor}
 use Rattle.folder_runs.specs.LoadRun.{loads_text, RunsLoad}
 use Rattle.local_runs.specs.LocalRun.{read_local, RunsLocal}

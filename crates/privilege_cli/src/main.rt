@@ -3,7 +3,7 @@
 
 mod program;
 
-use door_workers::Notes;
+use desk_server::Notes;
 use folder_disk::FolderDisk;
 use host_notes::{explain, explain_streams, tell_folder_failure};
 use host_ports::{

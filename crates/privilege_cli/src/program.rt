@@ -14,7 +14,7 @@ use agent_runs::run_agent;
 use client_runs::{run_check, run_simple};
 use command_words::{Command, CommandRefusal, note_words};
 use desk_ports::{Disk, Sink, Source};
-use door_workers::Notes;
+use desk_server::Notes;
 use folder_runs::run_load;
 use host_notes::{COMMANDS_ARE_READ, RULES_ARE_READ};
 use host_ports::host_words;

@@ -16,7 +16,8 @@ use Rattle.rule_templates.specs.declared.placeholders.Placeholder.TheVariants.{P
 use Rattle.rule_templates.specs.PackageLabels.{read_only_label, author_label}
 use Rattle.rule_templates.specs.Processes.{process_labels}
 
--- what the placeholders stand for: a package by its name, its author, if it has one, and the label of one of its processes
+-- what the placeholders stand for: a package by its name, its author, if it has one, and the label of one of its
+-- processes
 pub record Expanded : Type 0 where
   pub name : List ℕ
   pub author : Option (List ℕ)
@@ -63,8 +64,8 @@ is_process_word (OfPackage placeholder) = is_process placeholder
 abbrev pub has_process : TemplateLine → Bool
 has_process line = is_process_word line.subject || is_process_word line.object
 
--- The processes for which a line gives a rule: each of the package's where it has `~PROCESS~`. Any other line gives one rule,
--- whatever the label of the process.
+-- The processes for which a line gives a rule: each of the package's where it has `~PROCESS~`. Any other line gives one
+-- rule, whatever the label of the process.
 abbrev pub processes_for : List ℕ → List (List ℕ) → TemplateLine → List (List ℕ)
 processes_for name processes line = if has_process line then processes else package_label name ∷ []
 

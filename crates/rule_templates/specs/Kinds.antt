@@ -10,7 +10,8 @@ use Rattle.app_registry.specs.declared.installs.Install.{Install}
 
 -- the package is hybrid, as all its installs say
 abbrev pub is_hybrid : RegistryLists → List ℕ → Bool
-is_hybrid registry name = unwrap_or (option_map (λ install. install.hybrid) (find (is_of_package name) registry.installs)) false
+is_hybrid registry name =
+    unwrap_or (option_map (λ install. install.hybrid) (find (is_of_package name) registry.installs)) false
 
 abbrev pub app_name : Install → List ℕ
 app_name install = install.app

@@ -11,7 +11,7 @@ use Rattle.app_registry.specs.declared.installs.Install.{Install}
 abbrev pub distinct_labels : List Install → List (List ℕ)
 distinct_labels installs = dedup same_text (map install_label installs)
 
--- The labels of the installs of a package: in a hybrid one the label of each application, in the order of their names, and in
--- a plain one the label of the package alone.
+-- The labels of the installs of a package: in a hybrid one the label of each application, in the order of their names,
+-- and in a plain one the label of the package alone.
 abbrev pub process_labels : RegistryLists → List ℕ → List (List ℕ)
 process_labels registry name = distinct_labels (filter (is_of_package name) registry.installs)

@@ -1,5 +1,6 @@
 -- Templates: at most 64 lines, each a rule whose labels may be placeholders.
-use Rattle.std.specs.Prelude.{ℕ, ◌+◌, Bool, ◌&&◌, nat_lt, nat_le, List, [], ◌∷◌, ◌++◌, length, Result, Ok, Err, if◌then◌else◌}
+use Rattle.std.specs.Prelude.{ℕ, ◌+◌, Bool, ◌&&◌, nat_lt, nat_le, List, []}
+use Rattle.std.specs.Prelude.{◌∷◌, ◌++◌, length, Result, Ok, Err, if◌then◌else◌}
 use Rattle.std.specs.List.{list_all, flat_map}
 use Rattle.text_lines.specs.Lines.{lines_of}
 use Rattle.rule_templates.specs.Limits.{most_template_lines}
@@ -11,7 +12,8 @@ use Rattle.rule_templates.specs.declared.templates.TemplateRefusal.TheVariants.{
 use Rattle.rule_templates.specs.TemplateLine.{line_of, line_text, is_kept_line}
 
 -- lines, and those that come behind them
-abbrev pub with_front : List TemplateLine → Result (List TemplateLine) TemplateRefusal → Result (List TemplateLine) TemplateRefusal
+abbrev pub with_front : List TemplateLine → Result (List TemplateLine) TemplateRefusal
+    → Result (List TemplateLine) TemplateRefusal
 with_front front (Ok lines) = Ok (front ++ lines)
 with_front front (Err refusal) = Err refusal
 
@@ -20,7 +22,8 @@ abbrev pub with_line : ℕ → Result TemplateLine LineFault → Result (List Te
     → Result (List TemplateLine) TemplateRefusal
 with_line number (Err Form) later = Err (BadLine number)
 with_line number (Err UnknownPlaceholder) later = Err (BadPlaceholder number)
-with_line number (Ok line) later = if nat_lt most_template_lines number then Err (TooMany number) else with_front (line ∷ []) later
+with_line number (Ok line) later =
+    if nat_lt most_template_lines number then Err (TooMany number) else with_front (line ∷ []) later
 
 -- the lines of a template, numbered from a number on
 abbrev pub template_from : ℕ → List (List ℕ) → Result (List TemplateLine) TemplateRefusal

@@ -1,5 +1,6 @@
 -- Lines of a template: rules whose labels may be placeholders.
-use Rattle.std.specs.Prelude.{ℕ, Bool, true, false, not, ◌&&◌, ◌||◌, List, [], ◌∷◌, Option, Some, None, Result, Ok, Err, if◌then◌else◌}
+use Rattle.std.specs.Prelude.{ℕ, Bool, true, false, not, ◌&&◌, ◌||◌, List, []}
+use Rattle.std.specs.Prelude.{◌∷◌, Option, Some, None, Result, Ok, Err, if◌then◌else◌}
 use Rattle.std.specs.Option.{option_map}
 use Rattle.smack_rules.specs.declared.modes.Modes.{Modes}
 use Rattle.smack_rules.specs.Modes.{modes_of, spelling}
@@ -56,7 +57,8 @@ change_of _ = None
 -- the line of two label words and a change, where there is a change and the placeholders are known
 abbrev pub line_with : Option Word → Option Word → Option Change → Result TemplateLine LineFault
 line_with subject object None = Err Form
-line_with (Some subject) (Some object) (Some change) = Ok (record { subject = subject; object = object; change = change })
+line_with (Some subject) (Some object) (Some change) =
+    Ok (record { subject = subject; object = object; change = change })
 line_with (Some subject) None (Some change) = Err UnknownPlaceholder
 line_with None object (Some change) = Err UnknownPlaceholder
 

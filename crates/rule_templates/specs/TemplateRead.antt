@@ -16,6 +16,7 @@ ReadsAs (Ok read) template = template ≡ Ok read
 ReadsAs (Err refusal) template = RefusesAs refusal template
 
 -- One more line is there where it is right and there is room for it, and else the template stays.
-abbrev pub Pushes : List TemplateLine → Result (Unit {0}) TemplateRefusal → List TemplateLine → Result (List TemplateLine) TemplateRefusal → Type 0
+abbrev pub Pushes : List TemplateLine → Result (Unit {0}) TemplateRefusal → List TemplateLine
+    → Result (List TemplateLine) TemplateRefusal → Type 0
 Pushes old (Ok done) new more = more ≡ Ok new
 Pushes old (Err refusal) new more = (new ≡ old) × RefusesAs refusal more

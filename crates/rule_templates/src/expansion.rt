@@ -16,8 +16,8 @@ use std::alloc::{AllocError, Global};
 
 /// The Smack rules of a package: the template's lines in order, each placeholder replaced by the package's label. In a
 /// hybrid package a line with `~PROCESS~` gives one rule for each application, in the order of their names, with that
-/// application's label. A line with `~AUTHOR~` is left out where the package has no author. Linear in the template and the
-/// package's installs, which are found by binary searches.
+/// application's label. A line with `~AUTHOR~` is left out where the package has no author. Linear in the template and
+/// the package's installs, which are found by binary searches.
 pub fn expand(
     alloc: Global,
     template: &Template,
@@ -26,7 +26,8 @@ pub fn expand(
 ) -> Result<Vec<Rule>, AllocError>
     requires { IsTrue (has_package registry.now «package».now) }
     ensures rules { IfOk result (λ rules. rules.items ≡ expansion template.now registry.now «package».now) }
-    // What `~PROCESS~` stands for: the labels of the applications of a hybrid package, and that of a plain package alone.
+    // What `~PROCESS~` stands for: the labels of the applications of a hybrid package, and that of a plain package
+    // alone.
     ensures processes { process_labels registry.now «package».now ≡ labels_by_kind registry.now «package».now }
 {
     // A registry keeps that all installs of a package are of one kind.

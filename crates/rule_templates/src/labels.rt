@@ -78,7 +78,8 @@ impl PackageLabels {
         &self.own
     }
 
-    /// The label that a word stands for, and `~PROCESS~` for this one. `None` where it is the author's, and there is none.
+    /// The label that a word stands for, and `~PROCESS~` for this one. `None` where it is the author's, and there is
+    /// none.
     pub(crate) fn of_word<'l>(&'l self, word: &'l Word, process: &'l Label) -> Option<&'l Label>
         ensures { option_copied result ≡ word_label_in self.now process.now word.now }
     {

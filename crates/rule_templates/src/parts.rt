@@ -2,7 +2,8 @@
 
 ghost use Rattle.std.specs.Prelude.{◌≡◌, [], ◌∷◌, Some, None, Ok, Err, IsTrue, IfOk, MatchOption, MatchResult, is_some};
 ghost use Rattle.smack_rules.specs.Words.{words_of};
-ghost use Rattle.rule_templates.specs.TemplateLine.{is_label_word, word_of, change_of, line_with, line_of, is_kept_line};
+ghost use Rattle.rule_templates.specs.TemplateLine.{is_label_word, word_of, change_of};
+ghost use Rattle.rule_templates.specs.TemplateLine.{line_with, line_of, is_kept_line};
 
 use crate::lines::{Change, LineFault, TemplateLine, Word};
 use crate::placeholders::{Placeholder, begins_with_tilde};
@@ -38,7 +39,8 @@ impl Parts<'_> {
 /// placeholders are. Takes no memory.
 pub(crate) fn parts_of(line: &[u8]) -> Result<Parts<'_>, LineFault>
     ensures { MatchResult result
-        (λ parts. line_of line.now ≡ line_with (word_of parts.subject.now) (word_of parts.object.now) (Some parts.change))
+        (λ parts. line_of line.now
+        ≡ line_with (word_of parts.subject.now) (word_of parts.object.now) (Some parts.change))
         (λ fault. line_of line.now ≡ Err fault) }
 {
     let (subject, rest) = split_word(line).ok_or(LineFault::Form)?;

@@ -1,7 +1,8 @@
 //! Templates.
 
 ghost use Rattle.rule_templates.specs.Limits.{most_template_lines};
-ghost use Rattle.std.specs.Prelude.{◌≡◌, ◌≤◌, Some, List, Result, Ok, Err, IsOk, IsTrue, IfOk, IfErr, OnOk, MatchOption, MatchResult};
+ghost use Rattle.std.specs.Prelude.{◌≡◌, ◌≤◌, Some, List, Result, Ok, Err};
+ghost use Rattle.std.specs.Prelude.{IsOk, IsTrue, IfOk, IfErr, OnOk, MatchOption, MatchResult};
 ghost use Rattle.rule_templates.specs.declared.lines.TemplateLine.{TemplateLine};
 ghost use Rattle.rule_templates.specs.declared.templates.TemplateRefusal.{TemplateRefusal};
 ghost use Rattle.rule_templates.specs.TemplateLine.{word_of, line_with, line_of, is_kept_line};
@@ -169,9 +170,9 @@ impl Template {
         *self.lines.allocator()
     }
 
-    /// The rules that the template gives for a package of the registry: its lines in order, each placeholder replaced by
-    /// the package's label. In a hybrid package a line with `~PROCESS~` gives a rule for each application. A line with
-    /// `~AUTHOR~` is left out without an author.
+    /// The rules that the template gives for a package of the registry: its lines in order, each placeholder replaced
+    /// by the package's label. In a hybrid package a line with `~PROCESS~` gives a rule for each application. A line
+    /// with `~AUTHOR~` is left out without an author.
     pub fn rules_for(&self, registry: &Registry, package: &Ident) -> Result<Vec<Rule>, AllocError>
         ensures { IfOk result (λ rules. rules.items ≡ expansion self.now registry.now «package».now) }
     {

@@ -3,7 +3,8 @@ use Rattle.std.specs.Prelude.{◌≡◌, ◌<◌, ◌⊎◌, ℕ}
 use Rattle.desk_ports.specs.Faults.{next_count, last_count}
 use Rattle.run_endings.specs.Outside.{Outside}
 use Rattle.run_endings.specs.declared.endings.Ending.{Ending}
-use Rattle.run_endings.specs.declared.endings.Ending.TheVariants.{Done, Memory, Words, Line, Source, Sink, Disk, Net, Damaged, Reply, TooLong}
+use Rattle.run_endings.specs.declared.endings.Ending.TheVariants.{Done, Memory, Words, Line, Source, Sink}
+use Rattle.run_endings.specs.declared.endings.Ending.TheVariants.{Disk, Net, Damaged, Reply, TooLong}
 
 abbrev pub status_of : Ending → ℕ
 status_of Done = 0
@@ -43,8 +44,8 @@ SinkFaults Disk before after = after ≡ before
 SinkFaults Net before after = after ≡ before
 SinkFaults ending before after = (after ≡ before) ⊎ (after ≡ next_count before)
 
--- No call of the source and of the disk failed but those that the ending tells of; `Writes` says it of the sink. What a net
--- counts is for each command to say, since one goes on behind a link that failed.
+-- No call of the source and of the disk failed but those that the ending tells of; `Writes` says it of the sink. What a
+-- net counts is for each command to say, since one goes on behind a link that failed.
 pub record CountsFaults (ending : Ending) (before after : Outside) : Type 0 where
   pub source : after.source.faults ≡ source_faults_after ending before.source.faults
   pub disk : after.disk.faults ≡ disk_faults_after ending before.disk.faults

@@ -13,7 +13,8 @@ pub record SinkSeen : Type 0 where
   pub taken : Option (List ℕ)
   pub faults : ℕ
 
--- a disk: its state, where it tells it, its moment, and which maps a stop may have left at a moment since an earlier one
+-- a disk: its state, where it tells it, its moment, and which maps a stop may have left at a moment since an earlier
+-- one
 pub record DiskSeen : Type 1 where
   pub state : Option DiskState
   pub moment : ℕ
@@ -38,7 +39,8 @@ source_seen left faults source = record { left = left source; faults = faults so
 abbrev pub sink_seen : {K : Type 0} → (K → Option (List ℕ)) → (K → ℕ) → K → SinkSeen
 sink_seen taken faults sink = record { taken = taken sink; faults = faults sink }
 
-abbrev pub disk_seen : {D : Type 0} → (D → Option DiskState) → (D → ℕ) → (D → ℕ → FileMap → Type 0) → (D → ℕ) → D → DiskSeen
+abbrev pub disk_seen : {D : Type 0} → (D → Option DiskState) → (D → ℕ) → (D → ℕ → FileMap → Type 0) → (D → ℕ) → D
+    → DiskSeen
 disk_seen state moment left_since faults disk =
     record { state = state disk; moment = moment disk; left_since = left_since disk; faults = faults disk }
 

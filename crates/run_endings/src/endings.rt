@@ -61,8 +61,8 @@ impl Ending {
         }
     }
 
-    /// Has the sink take the last line of the run, where the ending has one, behind the answers. It takes no memory; where
-    /// a call of the sink fails, the line is cut there.
+    /// Has the sink take the last line of the run, where the ending has one, behind the answers. It takes no memory;
+    /// where a call of the sink fails, the line is cut there.
     pub fn write_last_line<K: Sink>(&self, sink: &mut K)
         ensures { (said : Said) (before : SinkSeen)
             → WritesAnswers self.now said before (sink_seen K.taken K.faults sink.old)

@@ -19,7 +19,11 @@ module _ (count : ℕ) (said : Said) (found : Outcome) (comes_to : outcome count
   pub completes-sample : (ending : Ending) → IsUnfailed ending → RunsSample count said ending
       → ((ending ≡ Done) × (said.due ≡ sample_text count found)) ⊎ (ending ≡ Memory)
   completes-sample Done unfailed run =
-      inl (refl, run.told ∙ ap (λ (next : Option Outcome). sample_text count (found_in found next)) (sym run.comes_to ∙ comes_to))
+      inl (
+        refl,
+        run.told ∙ ap (λ (next : Option Outcome). sample_text count (found_in found next))
+            (sym run.comes_to ∙ comes_to),
+      )
   completes-sample Memory unfailed run = inr refl
   completes-sample (Line number) unfailed run = absurd (clash found (sym comes_to ∙ run.0))
   completes-sample Sink unfailed run = absurd unfailed

@@ -1,5 +1,6 @@
 -- Lines gone through one after another.
-use Rattle.std.proofs.Common.{◌≡◌, ◌<◌, ◌+◌, ◌-◌, suc, ℕ, List, [], ◌∷◌, ◌++◌, Option, Some, None, Result, Ok, Err, option_and_then, refl, sym, ap, ◌∙◌, subst, arith, append_assoc, append-nil}
+use Rattle.std.proofs.Common.{◌≡◌, ◌<◌, ◌+◌, ◌-◌, suc, ℕ, List, [], ◌∷◌, ◌++◌, Option, Some, None, Result, Ok, Err}
+use Rattle.std.proofs.Common.{option_and_then, refl, sym, ap, ◌∙◌, subst, arith, append_assoc, append-nil}
 use Rattle.run_endings.specs.declared.endings.Ending.{Ending}
 use Rattle.run_endings.specs.declared.endings.Ending.TheVariants.{Memory, Line}
 use Rattle.sample_runs.specs.Lines.{install_line, denial, checks_of, installs, denials, checks}
@@ -15,10 +16,12 @@ stops-then f next ending stops = absurd stops
 
 module _ {S : Type 0} (step : List ℕ → S → Option S) where
   -- more lines behind lines
-  pub goes-on : (first second : List (List ℕ)) (a b c : S) (result : Result (Unit {0}) Ending) → Goes step first a b (Ok tt)
+  pub goes-on : (first second : List (List ℕ)) (a b c : S) (result : Result (Unit {0}) Ending)
+      → Goes step first a b (Ok tt)
       → Goes step second b c result → Goes step (first ++ second) a c result
   goes-on first second a b c (Ok value) one two =
-      λ (rest : List (List ℕ)). ap (λ (lines : List (List ℕ)). each_line step lines a) (append_assoc first second rest) ∙ (one (second ++ rest) ∙ two rest)
+      λ (rest : List (List ℕ)). ap (λ (lines : List (List ℕ)). each_line step lines a) (append_assoc first second rest)
+      ∙ (one (second ++ rest) ∙ two rest)
   goes-on first second a b c (Err ending) one two =
       λ (rest : List (List ℕ)). subst (λ (next : Option S). StopsAt next ending)
       (sym (ap (λ (lines : List (List ℕ)). each_line step lines a) (append_assoc first second rest) ∙ one (second ++ rest))) (two rest)
@@ -27,7 +30,8 @@ module _ {S : Type 0} (step : List ℕ → S → Option S) where
   pub stops-on : (first second : List (List ℕ)) (a b c : S) (ending : Ending) → Goes step first a b (Err ending)
       → Goes step (first ++ second) a c (Err ending)
   stops-on first second a b c ending one rest =
-      subst (λ (lines : List (List ℕ)). StopsAt (each_line step lines a) ending) (sym (append_assoc first second rest)) (one (second ++ rest))
+      subst (λ (lines : List (List ℕ)). StopsAt (each_line step lines a) ending) (sym (append_assoc first second rest))
+      (one (second ++ rest))
 
   -- ---- a loop: what is left of the lines, from an application on
 
@@ -53,9 +57,11 @@ module _ {S : Type 0} (step : List ℕ → S → Option S) where
     unfolds app now less goes rest =
         goes rest
         ∙ (ap (λ (lines : List (List ℕ)). each_line step (lines ++ rest) now) (turn app less)
-        ∙ ap (λ (lines : List (List ℕ)). each_line step lines now) (append_assoc (of app) (lines (app + 1) (count - (app + 1))) rest))
+        ∙ ap (λ (lines : List (List ℕ)). each_line step lines now)
+        (append_assoc (of app) (lines (app + 1) (count - (app + 1))) rest))
 
-    pub goes-turn : (app : ℕ) (now after : S) → app < count → GoesTo lines first count app now → Goes step (of app) now after (Ok tt)
+    pub goes-turn : (app : ℕ) (now after : S) → app < count → GoesTo lines first count app now
+        → Goes step (of app) now after (Ok tt)
         → GoesTo lines first count (app + 1) after
     goes-turn app now after less goes one rest =
         unfolds app now less goes rest ∙ one (lines (app + 1) (count - (app + 1)) ++ rest)
@@ -66,6 +72,7 @@ module _ {S : Type 0} (step : List ℕ → S → Option S) where
         subst (λ (next : Option S). StopsAt next ending) (sym (unfolds app now less goes rest))
         (one (lines (app + 1) (count - (app + 1)) ++ rest))
 
-    pub goes-all : (app : ℕ) (now : S) → count - app ≡ 0 → GoesTo lines first count app now → Goes step (lines 0 count) first now (Ok tt)
+    pub goes-all : (app : ℕ) (now : S) → count - app ≡ 0 → GoesTo lines first count app now
+        → Goes step (lines 0 count) first now (Ok tt)
     goes-all app now done goes rest =
         goes rest ∙ ap (λ (lines : List (List ℕ)). each_line step (lines ++ rest) now) (ap (lines app) done ∙ none app)

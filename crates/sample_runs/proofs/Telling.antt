@@ -1,17 +1,19 @@
 -- The whole script, from its parts, and what is said of it.
-use Rattle.std.proofs.Common.{◌≡◌, ℕ, List, [], ◌++◌, Option, Some, None, Result, Ok, Err, inl, option_and_then, refl, sym, ap, ◌∙◌, subst, append-nil}
+use Rattle.std.proofs.Common.{◌≡◌, ℕ, List, [], ◌++◌, Option, Some, None, Result, Ok, Err, inl, option_and_then, refl}
+use Rattle.std.proofs.Common.{sym, ap, ◌∙◌, subst, append-nil}
 use Rattle.std.specs.Option.{option_map}
 use Rattle.desk_ports.proofs.Appends.{Appended-none}
 use Rattle.bucket_store.specs.Database.{Database}
 use Rattle.desk_state.specs.DeskState.{fresh}
 use Rattle.line_script.specs.Block.{Block, outside}
-use Rattle.line_script.specs.declared.places.Place.TheVariants.{Local}
+use Rattle.script_words.specs.declared.places.Place.TheVariants.{Local}
 use Rattle.run_endings.specs.Outside.{SinkSeen}
 use Rattle.run_endings.specs.Saying.{Said, silence, WritesAnswers}
 use Rattle.run_endings.specs.declared.endings.Ending.{Ending}
 use Rattle.run_endings.specs.declared.endings.Ending.TheVariants.{Memory, Line}
 use Rattle.sample_runs.specs.Lines.{opening, installs, denials, commands, checks, questions}
-use Rattle.sample_runs.specs.Sample.{Stand, each_line, follow_line, Asked, none_asked, ask_line, prepared, Outcome, outcome_at, outcome}
+use Rattle.sample_runs.specs.Sample.{Stand, each_line, follow_line, Asked, none_asked, ask_line, prepared, Outcome}
+use Rattle.sample_runs.specs.Sample.{outcome_at, outcome}
 use Rattle.sample_runs.specs.SampleRun.{RunsSample}
 use Rattle.sample_runs.specs.parts.Following.{StopsAt, Goes}
 use Rattle.sample_runs.specs.declared.tallies.Tally.{Tally}
@@ -35,7 +37,8 @@ module _ (count : ℕ) (first : Stand) (begins : first ≡ start) where
     opened : prepared count ≡ each_line follow_line (installs 0 count ++ denials 0 count) second
     opened = begin ∙ opens (installs 0 count ++ denials 0 count)
 
-    pub prepare-uninstalled : (third : Stand) (ending : Ending) → Goes follow_line (installs 0 count) second third (Err ending)
+    pub prepare-uninstalled : (third : Stand) (ending : Ending)
+        → Goes follow_line (installs 0 count) second third (Err ending)
         → StopsAt (prepared count) ending
     prepare-uninstalled third ending stops =
         subst (λ (next : Option Stand). StopsAt next ending) (sym opened) (stops (denials 0 count))
@@ -43,9 +46,11 @@ module _ (count : ℕ) (first : Stand) (begins : first ≡ start) where
     module _ (third : Stand) (installed : Goes follow_line (installs 0 count) second third (Ok tt)) where
       all_installed : prepared count ≡ each_line follow_line (denials 0 count ++ []) third
       all_installed =
-          opened ∙ (installed (denials 0 count) ∙ ap (λ lines. each_line follow_line lines third) (sym (append-nil (denials 0 count))))
+          opened ∙ (installed (denials 0 count) ∙ ap (λ lines. each_line follow_line lines third)
+          (sym (append-nil (denials 0 count))))
 
-      pub prepare-undenied : (last : Stand) (ending : Ending) → Goes follow_line (denials 0 count) third last (Err ending)
+      pub prepare-undenied : (last : Stand) (ending : Ending)
+          → Goes follow_line (denials 0 count) third last (Err ending)
           → StopsAt (prepared count) ending
       prepare-undenied last ending stops =
           subst (λ (next : Option Stand). StopsAt next ending) (sym all_installed) (stops [])
@@ -58,7 +63,8 @@ module _ (count : ℕ) (first : Stand) (begins : first ≡ start) where
 abbrev tally_of : Asked → Tally
 tally_of asked = asked.tally
 
-stops-map : {A B : Type 0} (f : A → B) (next : Option A) (ending : Ending) → StopsAt next ending → StopsAt (option_map f next) ending
+stops-map : {A B : Type 0} (f : A → B) (next : Option A) (ending : Ending) → StopsAt next ending
+    → StopsAt (option_map f next) ending
 stops-map f next Memory stops = tt
 stops-map f next (Line number) stops = ap (option_map f) stops
 stops-map f next ending stops = absurd stops
@@ -71,11 +77,13 @@ module _ (database : Database) (count : ℕ) (block : Block) (first last : Asked
       ∙ ap (λ lines. each_line (ask_line database) lines first) (sym (append-nil (checks 0 count)))
 
   pub asks-through : Goes (ask_line database) (checks 0 count) first last (Ok tt)
-      → option_map (λ asked. asked.tally) (each_line (ask_line database) (questions count) (none_asked block)) ≡ Some last.tally
+      → option_map (λ asked. asked.tally) (each_line (ask_line database) (questions count) (none_asked block))
+      ≡ Some last.tally
   asks-through goes = ap (option_map tally_of) (asking ∙ goes [])
 
   pub asks-stops : (ending : Ending) → Goes (ask_line database) (checks 0 count) first last (Err ending)
-      → StopsAt (option_map (λ asked. asked.tally) (each_line (ask_line database) (questions count) (none_asked block))) ending
+      → StopsAt (option_map (λ asked. asked.tally)
+      (each_line (ask_line database) (questions count) (none_asked block))) ending
   asks-stops ending stops =
       stops-map tally_of (each_line (ask_line database) (questions count) (none_asked block)) ending
       (subst (λ (next : Option Asked). StopsAt next ending) (sym asking) (stops []))
@@ -112,9 +120,11 @@ module _ (count : ℕ) where
     comes = ap (option_and_then (outcome_at count)) prepares
 
     -- it stops in its questions
-    pub outcome-unasked : (ending : Ending) → StopsAt (option_map (λ asked. asked.tally) answers) ending → StopsAt (outcome count) ending
+    pub outcome-unasked : (ending : Ending) → StopsAt (option_map (λ asked. asked.tally) answers) ending
+        → StopsAt (outcome count) ending
     outcome-unasked ending stops =
-        subst (λ (next : Option Outcome). StopsAt next ending) (sym comes) (outcome-stops stand.desk.commit answers ending stops)
+        subst (λ (next : Option Outcome). StopsAt next ending) (sym comes)
+        (outcome-stops stand.desk.commit answers ending stops)
 
     pub outcome-is : (tally : Tally) → option_map (λ asked. asked.tally) answers ≡ Some tally
         → outcome count ≡ Some (record { commits = stand.desk.commit; tally = tally })

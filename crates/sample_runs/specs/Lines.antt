@@ -4,7 +4,8 @@ use Rattle.std.specs.Prelude.{ℕ, zero, suc, ◌+◌, ◌/◌, ◌%◌, ◌==�
 -- the lines before the first install
 abbrev pub opening : List (List ℕ)
 opening =
-    codes "layout" ∷ codes "user 5001 system" ∷ codes "user 5002 admin" ∷ codes "user 5003 normal" ∷ codes "user 5004 guest" ∷ []
+    codes "layout" ∷ codes "user 5001 system" ∷ codes "user 5002 admin" ∷ codes "user 5003 normal"
+    ∷ codes "user 5004 guest" ∷ []
 
 -- a text, and behind it a number in decimal
 abbrev pub numbered : List ℕ → ℕ → List ℕ

@@ -1,12 +1,13 @@
 -- What the generated script comes to.
-use Rattle.std.specs.Prelude.{ℕ, true, ◌+◌, ◌*◌, ◌==◌, if◌then◌else◌, List, [], ◌∷◌, ◌++◌, Option, Some, None, codes, decimal, option_and_then}
+use Rattle.std.specs.Prelude.{ℕ, true, ◌+◌, ◌*◌, ◌==◌, if◌then◌else◌, List, []}
+use Rattle.std.specs.Prelude.{◌∷◌, ◌++◌, Option, Some, None, codes, decimal, option_and_then}
 use Rattle.std.specs.Option.{option_map}
 use Rattle.bucket_store.specs.Database.{Database, root}
 use Rattle.bucket_eval.specs.Evaluation.{answer}
 use Rattle.desk_state.specs.DeskState.{DeskState, fresh}
 use Rattle.line_script.specs.Block.{Block, outside}
 use Rattle.line_script.specs.Grammar.{step_at}
-use Rattle.line_script.specs.declared.places.Place.TheVariants.{Local}
+use Rattle.script_words.specs.declared.places.Place.TheVariants.{Local}
 use Rattle.line_script.specs.declared.steps.Step.{Step}
 use Rattle.desk_state.specs.declared.commands.Command.{Command}
 use Rattle.line_script.specs.declared.steps.Step.TheVariants.{Command as CommandStep, Check}
@@ -35,7 +36,8 @@ command_in other = None
 abbrev pub follow_line : List ℕ → Stand → Option Stand
 follow_line line now =
     option_and_then
-    (λ read. option_map (λ command. record { block = read.0; desk = after_command now.desk command }) (command_in read.1))
+    (λ read. option_map (λ command. record { block = read.0; desk = after_command now.desk command })
+    (command_in read.1))
     (step_at now.block line)
 
 -- ---- questions
@@ -93,5 +95,6 @@ count_line word number = word ++ (decimal number ++ codes "\n")
 
 abbrev pub sample_text : ℕ → Outcome → List ℕ
 sample_text count found =
-    count_line (codes "sample ") count ++ count_line (codes "commits ") found.commits ++ count_line (codes "checks ") (4 * count)
+    count_line (codes "sample ") count ++ count_line (codes "commits ") found.commits
+    ++ count_line (codes "checks ") (4 * count)
     ++ count_line (codes "allow ") found.tally.allowed ++ count_line (codes "deny ") found.tally.denied

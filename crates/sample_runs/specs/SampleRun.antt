@@ -11,8 +11,8 @@ pub record IsTold (count : ℕ) (answer : List ℕ) : Type 0 where
   pub comes_to : outcome count ≡ Some found
   pub told : answer ≡ sample_text count found
 
--- The answer, for each way in which the run ends. It ends by a line only where one of the script is outside the grammar, is no
--- command among the commands, or asks nothing among the questions.
+-- The answer, for each way in which the run ends. It ends by a line only where one of the script is outside the
+-- grammar, is no command among the commands, or asks nothing among the questions.
 abbrev pub SampleAnswers : ℕ → Ending → List ℕ → Type 0
 SampleAnswers count Done answer = IsTold count answer
 SampleAnswers count Sink answer = IsTold count answer

@@ -14,8 +14,8 @@ use itoa::Buffer;
 use run_endings::Ending;
 use std::alloc::{AllocError, Global};
 
-/// Runs the generated script of so many applications on a fresh policy state, and has the sink take what it comes to. No
-/// folder is mounted. Nothing is written where memory runs out.
+/// Runs the generated script of so many applications on a fresh policy state, and has the sink take what it comes to.
+/// No folder is mounted. Nothing is written where memory runs out.
 pub fn run_sample<K: Sink>(alloc: Global, count: u32, sink: &mut K) -> Ending
     ensures { (said : Said) × RunsSample count said result
         × WritesAnswers result said (sink_seen K.taken K.faults sink.old) (sink_seen K.taken K.faults sink.new) }

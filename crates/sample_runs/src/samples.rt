@@ -2,9 +2,9 @@
 ghost use Rattle.std.specs.Prelude.{◌≡◌, true, [], ◌∷◌, Some, None, MatchOption, IfOk, IfErr, OnOk, OnErr};
 ghost use Rattle.desk_state.specs.DeskState.{fresh};
 ghost use Rattle.line_script.specs.Block.{outside};
-ghost use Rattle.line_script.specs.Refusals.{names_a_rule};
+ghost use Rattle.line_answers.specs.Refusals.{names_a_rule};
 ghost use Rattle.line_script.specs.Turn.{AsksRequest};
-ghost use Rattle.line_script.specs.declared.places.Place.TheVariants.{Local};
+ghost use Rattle.script_words.specs.declared.places.Place.TheVariants.{Local};
 ghost use Rattle.script_replies.specs.Reply.{after_command};
 ghost use Rattle.sample_runs.specs.Lines.{opening, install_line, denial, installs, denials};
 ghost use Rattle.sample_runs.specs.Sample.{command_in, follow_line, prepared};

@@ -66,7 +66,8 @@ fn ask_over(
 ) -> Result<(), Ending>
     requires allowed { tally.old.allowed ≡ 0 }
     requires denied { tally.old.denied ≡ 0 }
-    ensures { Goes (ask_line index.now) (checks 0 count) (asked_of sample.old tally.old) (asked_of sample.new tally.new) result }
+    ensures { Goes (ask_line index.now) (checks 0 count) (asked_of sample.old tally.old)
+        (asked_of sample.new tally.new) result }
 {
     let mut app = 0;
     'apps: while app < count {
@@ -89,7 +90,8 @@ fn ask_app(
 ) -> Result<(), Ending>
     requires allowed { tally.old.allowed < 2 ^ 62 }
     requires denied { tally.old.denied < 2 ^ 62 }
-    ensures asks { Goes (ask_line index.now) (checks_of app) (asked_of sample.old tally.old) (asked_of sample.new tally.new) result }
+    ensures asks { Goes (ask_line index.now) (checks_of app) (asked_of sample.old tally.old)
+        (asked_of sample.new tally.new) result }
     ensures allowed { tally.new.allowed ≤ tally.old.allowed + 4 }
     ensures denied { tally.new.denied ≤ tally.old.denied + 4 }
 {
@@ -110,7 +112,8 @@ fn ask_user(
 ) -> Result<(), Ending>
     requires allowed { tally.old.allowed < 2 ^ 63 }
     requires denied { tally.old.denied < 2 ^ 63 }
-    ensures asks { Goes (ask_line index.now) (check_line app user ∷ []) (asked_of sample.old tally.old) (asked_of sample.new tally.new) result }
+    ensures asks { Goes (ask_line index.now) (check_line app user ∷ []) (asked_of sample.old tally.old)
+        (asked_of sample.new tally.new) result }
     ensures allowed { tally.new.allowed ≤ tally.old.allowed + 1 }
     ensures denied { tally.new.denied ≤ tally.old.denied + 1 }
 {
@@ -129,7 +132,8 @@ fn ask_line(
 ) -> Result<(), Ending>
     requires allowed { tally.old.allowed < 2 ^ 63 }
     requires denied { tally.old.denied < 2 ^ 63 }
-    ensures asks { Goes (ask_line index.now) (sample.old.line ∷ []) (asked_of sample.old tally.old) (asked_of sample.new tally.new) result }
+    ensures asks { Goes (ask_line index.now) (sample.old.line ∷ []) (asked_of sample.old tally.old)
+        (asked_of sample.new tally.new) result }
     ensures allowed { tally.new.allowed ≤ tally.old.allowed + 1 }
     ensures denied { tally.new.denied ≤ tally.old.denied + 1 }
 {

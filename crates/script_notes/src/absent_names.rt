@@ -18,8 +18,8 @@ use std::alloc::{AllocError, Global};
 /// What stands between the package and the application in the label of an application of a hybrid package.
 const APP_FRONT: &[u8] = b"::App::";
 
-/// Tells which name of the question is not there, the client first. It says whether something was to be told. Where nothing
-/// is installed and no user is there, names are free.
+/// Tells which name of the question is not there, the client first. It says whether something was to be told. Where
+/// nothing is installed and no user is there, names are free.
 pub fn note_of_check<K: Sink>(
     alloc: Global,
     number: u32,
@@ -46,7 +46,8 @@ pub fn note_of_check<K: Sink>(
     false
 }
 
-/// Tells that a label of the request is that of no package, the subject first. It says whether something was to be told.
+/// Tells that a label of the request is that of no package, the subject first. It says whether something was to be
+/// told.
 pub fn note_of_access<K: Sink>(
     alloc: Global,
     number: u32,

@@ -57,8 +57,8 @@ impl LineNotes {
         self.broken = Some(BrokenRule::OfShare(refusal));
     }
 
-    /// Tells what is to be told of the line with this number, which asked for the step and was answered. The policy state is
-    /// that behind the step.
+    /// Tells what is to be told of the line with this number, which asked for the step and was answered. The policy
+    /// state is that behind the step.
     pub fn tell<K: Sink>(&mut self, number: u32, step: &Step<'_>, desk: &Desk, sink: &mut K)
         ensures taken { K.taken sink.new ≡ K.taken sink.old }
         ensures count { K.faults sink.new ≡ K.faults sink.old }

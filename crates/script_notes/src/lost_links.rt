@@ -48,8 +48,8 @@ const OF_TYPES: [Link; 4] = [
     },
 ];
 
-/// Tells that the command, which was accepted, left a bucket of the layout without its link. The policy state is that behind
-/// the command.
+/// Tells that the command, which was accepted, left a bucket of the layout without its link. The policy state is that
+/// behind the command.
 pub fn note_lost_link<K: Sink>(
     alloc: Global,
     number: u32,

@@ -33,8 +33,8 @@ pub fn near_app(alloc: Global, desk: &Desk, name: &[u8]) -> Result<Option<String
     }
 }
 
-/// The label of an install that is meant by a name: that of its package or application, also behind the front of labels, or
-/// one that is near.
+/// The label of an install that is meant by a name: that of its package or application, also behind the front of
+/// labels, or one that is near.
 pub fn near_label(alloc: Global, desk: &Desk, name: &[u8]) -> Result<Option<String>, AllocError> {
     let wanted = package_in(name);
     let installs = desk.registry().installs();

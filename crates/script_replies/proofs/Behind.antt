@@ -59,7 +59,8 @@ letters false false false false false false true is = cc
 -- ---- sets
 
 -- what is asked is within the modes exactly where what is left of it is within those beside them
-pub within-left : (asked b g : Modes) → is_within asked (with_lock (union b g)) ≡ is_within (without asked (with_lock g)) (with_lock b)
+pub within-left : (asked b g : Modes)
+    → is_within asked (with_lock (union b g)) ≡ is_within (without asked (with_lock g)) (with_lock b)
 within-left asked b g = λ i. is_empty (record {
   read = split asked.read b.read g.read i;
   write = split asked.write b.write g.write i;
@@ -93,7 +94,8 @@ within-none missing b none =
     })
 
 -- what is within the modes is within more of them
-within-more : (asked b g : Modes) → is_within asked (with_lock b) ≡ true → is_within asked (with_lock (union b g)) ≡ true
+within-more : (asked b g : Modes) → is_within asked (with_lock b) ≡ true
+    → is_within asked (with_lock (union b g)) ≡ true
 within-more asked b g is =
     let e = letters (asked.read && not b.read) (asked.write && not b.write) (asked.execute && not b.execute)
     (asked.append && not b.append) (asked.transmute && not b.transmute) (asked.lock && not (b.lock || b.write))
@@ -121,7 +123,8 @@ reading-left asked = λ i. is_reading (record {
 })
 
 -- what is left of a request is one where it has a letter
-pub request-left : (asked more : Modes) → IsTrue (is_request asked) → is_empty (without asked more) ≡ false → IsTrue (is_request (without asked more))
+pub request-left : (asked more : Modes) → IsTrue (is_request asked) → is_empty (without asked more) ≡ false
+    → IsTrue (is_request (without asked more))
 request-left asked more request some =
     let both = and_parts (not (is_empty asked)) (not asked.bring_up) request in
     and_from (not (is_empty (without asked more))) (not (asked.bring_up && not more.bring_up)) (ap not some)
@@ -135,7 +138,8 @@ decided_as allowed rule = record { allowed = allowed; rule = rule }
 abbrev by_cases : Bool → Bool → Bool → Bool → Bool → Bool → Decision
 by_cases star hat floor open_ same within =
     cond star (decided_as false 1) (cond hat (decided_as true 2) (cond floor (decided_as true 3)
-    (cond open_ (decided_as true 4) (cond same (decided_as true 5) (cond within (decided_as true 6) (decided_as false 7))))))
+    (cond open_ (decided_as true 4)
+    (cond same (decided_as true 5) (cond within (decided_as true 6) (decided_as false 7))))))
 
 cases-are : (s o : List ℕ) (asked granted : Modes) → decision s o asked granted
     ≡ by_cases (is_star s) (is_hat s && is_reading asked) (is_floor o && is_reading asked) (is_star o) (bytes_eq s o)
@@ -151,7 +155,8 @@ kept false true c d e within more grows some = refl
 kept false false true d e within more grows some = refl
 kept false false false true e within more grows some = refl
 kept false false false false true within more grows some = refl
-kept false false false false false true more grows some = ap (λ b. cond b (decided_as true 6) (decided_as false 7)) (sym (grows refl))
+kept false false false false false true more grows some = ap (λ b. cond b (decided_as true 6) (decided_as false 7))
+    (sym (grows refl))
 kept false false false false false false more grows some = absurd (some refl)
 
 record NoCase (a b c d e : Bool) : Type 0 where
@@ -171,8 +176,10 @@ no-case false false false false true within is = absurd (omega (arith, is))
 no-case false false false false false within is =
     record { star = refl; hat = refl; floor = refl; open_ = refl; same = refl }
 
-by-last : (a b c d e within : Bool) → NoCase a b c d e → by_cases a b c d e within ≡ cond within (decided_as true 6) (decided_as false 7)
-by-last a b c d e within none = λ i. by_cases (none.star i) (none.hat i) (none.floor i) (none.open_ i) (none.same i) within
+by-last : (a b c d e within : Bool) → NoCase a b c d e
+    → by_cases a b c d e within ≡ cond within (decided_as true 6) (decided_as false 7)
+by-last a b c d e within none = λ i. by_cases (none.star i) (none.hat i) (none.floor i) (none.open_ i)
+    (none.same i) within
 
 -- a label of its own is no case for what is left
 still : (special : Bool) (asked g : Modes) → (special ≡ true → g ≡ no_access) → special && is_reading asked ≡ false
@@ -188,7 +195,8 @@ module _ (s o : List ℕ) (asked b g : Modes) where
       let last = ap (λ (decided : Decision). decided.rule) (cases-are s o asked b) in
       cases-are s o asked b
       ∙ kept (is_star s) (is_hat s && is_reading asked) (is_floor o && is_reading asked) (is_star o) (bytes_eq s o)
-      (is_within asked (with_lock b)) (is_within asked (with_lock (union b g))) (within-more asked b g) (λ is. some (last ∙ is))
+      (is_within asked (with_lock b)) (is_within asked (with_lock (union b g))) (within-more asked b g)
+      (λ is. some (last ∙ is))
       ∙ sym (cases-are s o asked (union b g))
 
   module _ (is : (decision s o asked b).rule ≡ 7) where
@@ -207,7 +215,8 @@ module _ (s o : List ℕ) (asked b g : Modes) where
     -- all that is asked is granted beside
     pub decided-all : is_empty (without asked (with_lock g)) ≡ true → decision s o asked (union b g) ≡ decided_as true 6
     decided-all all =
-        with-more ∙ ap (λ within. cond within (decided_as true 6) (decided_as false 7)) (within-none (without asked (with_lock g)) b all)
+        with-more ∙ ap (λ within. cond within (decided_as true 6) (decided_as false 7))
+        (within-none (without asked (with_lock g)) b all)
 
     -- the rest is asked of the modes
     pub decided-left : (is_hat s ≡ true → g ≡ no_access) → (is_floor o ≡ true → g ≡ no_access)

@@ -1,5 +1,6 @@
 -- Buckets of a policy database by name, and what is found in them.
-use Rattle.std.proofs.Common.{◌≡◌, ◌≤◌, ◌+◌, ◌||◌, ℕ, suc, Bool, true, false, not, cond, ltb, List, [], ◌∷◌, length, slice_get, Option, Some, None, IfSome, refl, ap, ◌∙◌, subst, arith}
+use Rattle.std.proofs.Common.{◌≡◌, ◌≤◌, ◌+◌, ◌||◌, ℕ, suc, Bool, true, false, not, cond, ltb, List, [], ◌∷◌, length}
+use Rattle.std.proofs.Common.{slice_get, Option, Some, None, IfSome, refl, ap, ◌∙◌, subst, arith}
 use Rattle.std.specs.List.{list_any, position, position_or_len}
 use Rattle.std.proofs.lemmas.Bool.{ltb-false}
 use Rattle.std.proofs.lemmas.List.Folds.{list_any_at}
@@ -13,15 +14,17 @@ use Rattle.bucket_eval.specs.Evaluation.{answer}
 use Rattle.bucket_eval.specs.Found.{outcome_at}
 use Rattle.bucket_eval.specs.declared.answers.Found.{Found}
 use Rattle.desk_state.specs.declared.refusals.Refusal.TheVariants.{NoBucket}
-use Rattle.line_script.specs.Answers.{refusal_text}
+use Rattle.line_answers.specs.Answers.{refusal_text}
 use Rattle.script_replies.specs.Reply.{about}
 
 -- where no element is found, none passes
-at_head : (passes : Bool) (count first : ℕ) → suc count ≤ cond (not passes) (1 + first) 0 → (passes ≡ false) × (count ≤ first)
+at_head : (passes : Bool) (count first : ℕ) → suc count ≤ cond (not passes) (1 + first) 0 → (passes ≡ false)
+    × (count ≤ first)
 at_head true count first within = absurd (omega arith)
 at_head false count first within = (refl, omega arith)
 
-none_passes : {X : Type 0} (test : X → Bool) (xs : List X) → length xs ≤ position_or_len test xs → list_any test xs ≡ false
+none_passes : {X : Type 0} (test : X → Bool) (xs : List X) → length xs ≤ position_or_len test xs
+    → list_any test xs ≡ false
 none_passes test [] within = refl
 none_passes test (x ∷ xs) within =
     let here = at_head (test x) (length xs) (position_or_len test xs) within in
@@ -47,7 +50,8 @@ has-found name database place found =
     let stands = position-Some (is_of name) database.buckets place no_heading found in
     list_any_at (is_of name) database.buckets place no_heading stands.0 stands.1
 
-pub has-absent : (name : List ℕ) (database : Database) → place_of name database ≡ None → has_bucket name database ≡ false
+pub has-absent : (name : List ℕ) (database : Database) → place_of name database ≡ None
+    → has_bucket name database ≡ false
 has-absent name database absent =
     none_passes (is_of name) database.buckets
     (ltb-false _ _ (cond_none (ltb (position_or_len (is_of name) database.buckets) (length database.buckets)) _ absent))
@@ -66,7 +70,8 @@ answered-at name database question deep found place is answers =
     outcome_at database found ≡ Some (answer database heading.name question deep))) there answers)
 
 -- the answer about a bucket that is there, and about one that is not
-pub about-there : (name : List ℕ) (database : Database) (place : ℕ) (text : List ℕ) → place_of name database ≡ Some place
+pub about-there : (name : List ℕ) (database : Database) (place : ℕ) (text : List ℕ)
+    → place_of name database ≡ Some place
     → about database name text ≡ text
 about-there name database place text found =
     ap (λ there. cond there text (refusal_text (NoBucket name))) (has-found name database place found)

@@ -5,3 +5,7 @@ pub mod Refusing
 pub mod Naming
 pub mod Behind
 pub mod Plain
+pub mod Lines
+pub mod Going
+pub mod Ending
+pub mod NextLines

@@ -9,7 +9,8 @@ use Rattle.bucket_store.specs.Change.{listed, is_admitted}
 use Rattle.bucket_store.specs.Refusal.{Refuses, list, most_policies}
 use Rattle.bucket_store.specs.WellFormed.{IsSound}
 use Rattle.bucket_store.specs.declared.refusals.StoreRefusal.{StoreRefusal}
-use Rattle.bucket_store.specs.declared.refusals.StoreRefusal.TheVariants.{NoBucket, RootBucket, BadKind, Limit, Cycle, Memory}
+use Rattle.bucket_store.specs.declared.refusals.StoreRefusal.TheVariants.{NoBucket, RootBucket, BadKind, Limit, Cycle}
+use Rattle.bucket_store.specs.declared.refusals.StoreRefusal.TheVariants.{Memory}
 use Rattle.bucket_store.proofs.Sound.{fault-found}
 use Rattle.script_replies.specs.parts.Questions.{WantsMemory}
 
@@ -17,11 +18,16 @@ use Rattle.script_replies.specs.parts.Questions.{WantsMemory}
 pub only-memory : (name : List ℕ) (database : Database) → IsSound database → has_bucket name database ≡ true
     → (refusal : StoreRefusal) → Refuses database (list name database) refusal → WantsMemory refusal
 only-memory name database sound there (Memory error) refused = tt
-only-memory name database sound there (NoBucket bucket) refused = let none = sym refused ∙ fault-found name database database there sound in cc
-only-memory name database sound there RootBucket refused = let none = sym refused ∙ fault-found name database database there sound in cc
-only-memory name database sound there (BadKind kind) refused = let none = sym refused ∙ fault-found name database database there sound in cc
-only-memory name database sound there (Limit counted most) refused = let none = sym refused ∙ fault-found name database database there sound in cc
-only-memory name database sound there (Cycle bucket) refused = let none = sym refused ∙ fault-found name database database there sound in cc
+only-memory name database sound there (NoBucket bucket) refused = let none = sym refused
+    ∙ fault-found name database database there sound in cc
+only-memory name database sound there RootBucket refused = let none = sym refused
+    ∙ fault-found name database database there sound in cc
+only-memory name database sound there (BadKind kind) refused = let none = sym refused
+    ∙ fault-found name database database there sound in cc
+only-memory name database sound there (Limit counted most) refused = let none = sym refused
+    ∙ fault-found name database database there sound in cc
+only-memory name database sound there (Cycle bucket) refused = let none = sym refused
+    ∙ fault-found name database database there sound in cc
 
 -- no more than a database has policies
 pub listed-within : (name : List ℕ) (admitted : Filter) (database : Database) → IsSound database

@@ -1,5 +1,6 @@
 -- The names that keys name, key by key.
-use Rattle.std.proofs.Common.{◌≡◌, ◌+◌, ◌<◌, ℕ, List, [], ◌∷◌, ◌++◌, length, take, get_or, Option, Some, None, refl, sym, ap, ◌∙◌}
+use Rattle.std.proofs.Common.{◌≡◌, ◌+◌, ◌<◌, ℕ, List, [], ◌∷◌, ◌++◌, length, take, get_or, Option, Some, None, refl}
+use Rattle.std.proofs.Common.{sym, ap, ◌∙◌}
 use Rattle.std.specs.List.{cons_option, filter_map}
 use Rattle.std.specs.Option.{option_to_list}
 use Rattle.std.proofs.lemmas.List.{take_more}
@@ -12,7 +13,8 @@ alone None = refl
 alone (Some name) = refl
 
 -- one key more
-pub names-more : (reading : Key → Option (List ℕ)) (keys : List Key) (at : ℕ) (key : Key) → at < length keys → key ≡ get_or keys at key
+pub names-more : (reading : Key → Option (List ℕ)) (keys : List Key) (at : ℕ) (key : Key) → at < length keys
+    → key ≡ get_or keys at key
     → filter_map reading (take (at + 1) keys) ≡ filter_map reading (take at keys) ++ option_to_list (reading key)
 names-more reading keys at key within is =
     ap (filter_map reading) (take_more keys at key within ∙ ap (λ k. take at keys ++ k ∷ []) (sym is))

@@ -1,5 +1,6 @@
 -- The rules of open shares take nothing away.
-use Rattle.std.proofs.Common.{◌≡◌, ℕ, Bool, true, false, not, cond, ◌&&◌, ◌||◌, List, [], ◌∷◌, Option, Some, None, refl, sym, ap, ◌∙◌}
+use Rattle.std.proofs.Common.{◌≡◌, ℕ, Bool, true, false, not, cond, ◌&&◌, ◌||◌, List, [], ◌∷◌, Option, Some, None, refl}
+use Rattle.std.proofs.Common.{sym, ap, ◌∙◌}
 use Rattle.std.specs.Prelude.{find, option_map, reverse}
 use Rattle.std.specs.Str.{bytes_eq}
 use Rattle.std.proofs.lemmas.Bool.{and_parts, and_from}
@@ -25,12 +26,14 @@ use Rattle.script_replies.specs.parts.Plain.{is_plain, are_plain}
 
 install-plain : (install : Install) → is_hat (install_label install) ≡ false
 install-plain install = by_kind install.hybrid where
-  by_kind : (hybrid : Bool) → is_hat (cond hybrid (app_label install.package install.app) (package_label install.package)) ≡ false
+  by_kind : (hybrid : Bool) → is_hat
+      (cond hybrid (app_label install.package install.app) (package_label install.package)) ≡ false
   by_kind true = refl
   by_kind false = refl
 
 given-plain : (name : List ℕ) («package» own other : Option (List ℕ))
-    → ((label : List ℕ) → own ≡ Some label → is_hat label ≡ false) → ((label : List ℕ) → other ≡ Some label → is_hat label ≡ false)
+    → ((label : List ℕ) → own ≡ Some label → is_hat label ≡ false)
+    → ((label : List ℕ) → other ≡ Some label → is_hat label ≡ false)
     → are_plain (given name «package» own other) ≡ true
 given-plain name (Some «package») (Some own) (Some other) plain plain_other =
     λ i. (not (plain own refl i) && true) && ((not (plain_other other refl i) && true) && true)
@@ -38,7 +41,8 @@ given-plain name (Some «package») (Some own) None plain plain_other = refl
 given-plain name (Some «package») None other plain plain_other = refl
 given-plain name None own other plain plain_other = refl
 
-label-plain : (registry : RegistryLists) (app label : List ℕ) → label_of registry app ≡ Some label → is_hat label ≡ false
+label-plain : (registry : RegistryLists) (app label : List ℕ) → label_of registry app ≡ Some label
+    → is_hat label ≡ false
 label-plain registry app label is = by_install (find (is_of_app app) registry.installs) is where
   by_install : (found : Option Install) → option_map install_label found ≡ Some label → is_hat label ≡ false
   by_install None is = cc
@@ -51,7 +55,8 @@ rules-plain registry [] = refl
 rules-plain registry (share ∷ shares) =
     list_all-append is_plain (share_rules registry share) (rules registry shares)
     ∙ and_from (are_plain (share_rules registry share)) (are_plain (rules registry shares))
-    (given-plain share.name (package_of registry share.owner) (label_of registry share.owner) (label_of registry share.target)
+    (given-plain share.name (package_of registry share.owner) (label_of registry share.owner)
+    (label_of registry share.target)
     (label-plain registry share.owner) (label-plain registry share.target))
     (rules-plain registry shares)
 
@@ -127,9 +132,11 @@ module _ (start : Modes) (s o : List ℕ) where
       let none = (and_parts (is_empty deny) (not (is_hat subject) && not (is_floor object)) both.0).0 in
       by_pair (is_pair subject object s o) none (back-plain earlier both.1)
     where
-      by_pair : (pair : Bool) → is_empty deny ≡ true → looking_back start s o earlier ≡ union start (looking_back no_access s o earlier)
+      by_pair : (pair : Bool) → is_empty deny ≡ true
+          → looking_back start s o earlier ≡ union start (looking_back no_access s o earlier)
           → cond pair (without (union (looking_back start s o earlier) allow) deny) (looking_back start s o earlier)
-          ≡ union start (cond pair (without (union (looking_back no_access s o earlier) allow) deny) (looking_back no_access s o earlier))
+          ≡ union start (cond pair (without (union (looking_back no_access s o earlier) allow) deny)
+          (looking_back no_access s o earlier))
       by_pair true none later =
           without-empty (union (looking_back start s o earlier) allow) deny none
           ∙ ap (λ m. union m allow) later
@@ -143,7 +150,8 @@ reverse-plain (x ∷ xs) plain =
     let both = and_parts (is_plain x) (are_plain xs) plain in
     ap are_plain (reverse-append (x ∷ []) xs)
     ∙ list_all-append is_plain (reverse xs) (x ∷ [])
-    ∙ and_from (are_plain (reverse xs)) (is_plain x && true) (reverse-plain xs both.1) (and_from (is_plain x) true both.0 refl)
+    ∙ and_from (are_plain (reverse xs)) (is_plain x && true) (reverse-plain xs both.1)
+    (and_from (is_plain x) true both.0 refl)
 
 pub effective-plain : (start : Modes) (given : List Rule) (s o : List ℕ) → are_plain given ≡ true
     → effective_from start given s o ≡ union start (effective given s o)
@@ -156,7 +164,8 @@ not_of true is = cc
 not_of false is = refl
 
 -- a label that passes a test is none that does not
-other-subject : (subject s : List ℕ) (test : List ℕ → Bool) → test subject ≡ false → test s ≡ true → bytes_eq subject s ≡ false
+other-subject : (subject s : List ℕ) (test : List ℕ → Bool) → test subject ≡ false → test s ≡ true
+    → bytes_eq subject s ≡ false
 other-subject subject s test fails passes = by_case (bytes_eq subject s) refl where
   by_case : (same : Bool) → bytes_eq subject s ≡ same → bytes_eq subject s ≡ false
   by_case true is =
@@ -171,7 +180,8 @@ and_false false = refl
 
 -- no plain rule is for a subject that is the hat, or an object that is the floor
 module _ (s o : List ℕ) where
-  hat-back : is_hat s ≡ true → (newest : List Rule) → are_plain newest ≡ true → looking_back no_access s o newest ≡ no_access
+  hat-back : is_hat s ≡ true → (newest : List Rule) → are_plain newest ≡ true
+      → looking_back no_access s o newest ≡ no_access
   hat-back hat [] plain = refl
   hat-back hat (Set subject object modes ∷ earlier) plain = cc
   hat-back hat (Adjust subject object allow deny ∷ earlier) plain =
@@ -179,10 +189,12 @@ module _ (s o : List ℕ) where
       let labels = (and_parts (is_empty deny) (not (is_hat subject) && not (is_floor object)) both.0).1 in
       let subject_is = not_of (is_hat subject) (and_parts (not (is_hat subject)) (not (is_floor object)) labels).0 in
       let rest = looking_back no_access s o earlier in
-      ap (λ same. cond (same && bytes_eq object o) (without (union rest allow) deny) rest) (other-subject subject s is_hat subject_is hat)
+      ap (λ same. cond (same && bytes_eq object o) (without (union rest allow) deny) rest)
+      (other-subject subject s is_hat subject_is hat)
       ∙ hat-back hat earlier both.1
 
-  floor-back : is_floor o ≡ true → (newest : List Rule) → are_plain newest ≡ true → looking_back no_access s o newest ≡ no_access
+  floor-back : is_floor o ≡ true → (newest : List Rule) → are_plain newest ≡ true
+      → looking_back no_access s o newest ≡ no_access
   floor-back floor [] plain = refl
   floor-back floor (Set subject object modes ∷ earlier) plain = cc
   floor-back floor (Adjust subject object allow deny ∷ earlier) plain =
@@ -191,7 +203,8 @@ module _ (s o : List ℕ) where
       let object_is = not_of (is_floor object) (and_parts (not (is_hat subject)) (not (is_floor object)) labels).1 in
       let rest = looking_back no_access s o earlier in
       ap (λ same. cond same (without (union rest allow) deny) rest)
-      (ap (λ same. bytes_eq subject s && same) (other-subject object o is_floor object_is floor) ∙ and_false (bytes_eq subject s))
+      (ap (λ same. bytes_eq subject s && same) (other-subject object o is_floor object_is floor) ∙ and_false
+      (bytes_eq subject s))
       ∙ floor-back floor earlier both.1
 
   pub hat-plain : (given : List Rule) → are_plain given ≡ true → is_hat s ≡ true → effective given s o ≡ no_access

@@ -5,7 +5,7 @@ use Rattle.desk_state.specs.Rules.{Refuses, fault}
 use Rattle.desk_state.specs.declared.commands.Command.{Command}
 use Rattle.desk_state.specs.declared.refusals.Refusal.{Refusal}
 use Rattle.desk_state.specs.declared.refusals.Refusal.TheVariants as refusal
-use Rattle.line_script.specs.Refusals.{names_a_rule}
+use Rattle.line_answers.specs.Refusals.{names_a_rule}
 
 -- a refusal that names a rule names the first one
 pub refused-rule : (desk : DeskState) (command : Command) (broken : Refusal) → names_a_rule broken ≡ true

@@ -1,5 +1,7 @@
 -- Steps done one after another: the answers and the states that they lead to.
-use Rattle.std.proofs.Common.{◌≡◌, ◌≤◌, ◌<◌, ◌⊎◌, inl, inr, ℕ, zero, suc, Bool, true, false, nat_lt, List, [], ◌∷◌, ◌++◌, length, take, refl, sym, ap, ◌∙◌, subst, arith, append_assoc, append-nil, length-append}
+use Rattle.std.proofs.Common.{◌≡◌, ◌≤◌, ◌<◌, ◌⊎◌, inl, inr, ℕ, zero, suc, Bool, true, false, nat_lt, List, [], ◌∷◌}
+use Rattle.std.proofs.Common.{◌++◌, length, take, refl, sym, ap, ◌∙◌, subst, arith, append_assoc, append-nil}
+use Rattle.std.proofs.Common.{length-append}
 use Rattle.std.proofs.lemmas.Bool.{ltb-true, ltb-false}
 use Rattle.std.proofs.lemmas.List.{take_all, take-append-le}
 use Rattle.desk_state.specs.DeskState.{DeskState}
@@ -14,7 +16,8 @@ state_after-then start [] more = refl
 state_after-then start (step ∷ steps) more = state_after-then (after start step) steps more
 
 pub shares_behind-then : (start : DeskState) (shares : List Share) (steps more : List Step)
-    → shares_behind start shares (steps ++ more) ≡ shares_behind (state_after start steps) (shares_behind start shares steps) more
+    → shares_behind start shares (steps ++ more)
+    ≡ shares_behind (state_after start steps) (shares_behind start shares steps) more
 shares_behind-then start shares [] more = refl
 shares_behind-then start shares (step ∷ steps) more =
     shares_behind-then (after start step) (shares_after start shares step) steps more
@@ -36,7 +39,8 @@ pub replies-next : (start : DeskState) (shares : List Share) (steps : List Step)
     ≡ replies start shares steps ++ reply (state_after start steps) (shares_behind start shares steps) step
 replies-next start shares steps step =
     replies-then start shares steps (step ∷ [])
-    ∙ ap (λ text. replies start shares steps ++ text) (append-nil (reply (state_after start steps) (shares_behind start shares steps) step))
+    ∙ ap (λ text. replies start shares steps ++ text)
+    (append-nil (reply (state_after start steps) (shares_behind start shares steps) step))
 
 replies-front : (n : ℕ) (start : DeskState) (shares : List Share) (steps : List Step)
     → length (replies start shares (take n steps)) ≤ length (replies start shares steps)
@@ -72,7 +76,8 @@ in-turn-more start steps written more in_turn n short =
     in_turn n (omega (arith, short, length-append written more))
 
 -- one step more, which changes nothing, or before which all answers are written
-pub in-turn-next : (start : DeskState) (steps : List Step) (step : Step) (written : List ℕ) → AreInTurn start steps written
+pub in-turn-next : (start : DeskState) (steps : List Step) (step : Step) (written : List ℕ)
+    → AreInTurn start steps written
     → ((after (state_after start steps) step ≡ state_after start steps) ⊎ (length (replies start [] steps) ≤ length written))
     → AreInTurn start (steps ++ step ∷ []) written
 in-turn-next start steps step written in_turn changes n short = by_place (nat_lt (length steps) n) refl

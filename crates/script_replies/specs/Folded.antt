@@ -8,8 +8,8 @@ use Rattle.desk_state.specs.DeskState.{DeskState, smack_rules}
 use Rattle.private_sharing.specs.Rules.{rules}
 use Rattle.private_sharing.specs.declared.shares.Share.{Share}
 
--- The table of the rules of all packages, and the rules of the open shares, once they were asked for; and the policies that
--- are indexed.
+-- The table of the rules of all packages, and the rules of the open shares, once they were asked for; and the policies
+-- that are indexed.
 pub record Folded : Type 0 where
   pub table : Option (List PairModes)
   pub given : Option (List Rule)

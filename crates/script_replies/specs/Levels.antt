@@ -16,7 +16,8 @@ use Rattle.effective_audit.specs.Audit.{audited, fault}
 use Rattle.effective_audit.specs.declared.audits.Pair.{Pair}
 use Rattle.effective_audit.specs.declared.audits.AuditRefusal.{AuditRefusal}
 use Rattle.effective_audit.specs.declared.audits.AuditRefusal.TheVariants as audit
-use Rattle.line_script.specs.Answers.{refusal_text, level_text, levels_text, allowed_text, pairs_text, not_administrator_text, too_many_text}
+use Rattle.line_answers.specs.Answers.{refusal_text, level_text, levels_text, allowed_text, pairs_text}
+use Rattle.line_answers.specs.Answers.{not_administrator_text, too_many_text}
 
 -- why a request for a level is refused; want of memory is no refusal
 abbrev pub level_refusal_text : LevelRefusal → List ℕ

@@ -1,5 +1,7 @@
 pub mod Limits
 pub mod Script
+pub mod Reading
+pub mod NextLine
 pub mod Levels
 pub mod Sharing
 pub mod Reply

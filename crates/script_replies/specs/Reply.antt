@@ -1,5 +1,5 @@
--- What each step of a script is answered at a policy state with the shares that are open, and the state and the shares that it
--- leaves.
+-- What each step of a script is answered at a policy state with the shares that are open, and the state and the shares
+-- that it leaves.
 use Rattle.std.specs.Prelude.{ℕ, true, if◌then◌else◌, List, [], ◌++◌, length, Option, Some, None}
 use Rattle.std.specs.List.{flat_map}
 use Rattle.cynara_keys.specs.Field.{field_text}
@@ -19,7 +19,8 @@ use Rattle.desk_state.specs.declared.commands.Command.{Command}
 use Rattle.desk_state.specs.declared.commands.Command.TheVariants.{Erase}
 use Rattle.desk_state.specs.declared.refusals.Refusal.{Refusal}
 use Rattle.desk_state.specs.declared.refusals.Refusal.TheVariants.{NoBucket}
-use Rattle.line_script.specs.Answers.{accepted_text, erased_text, by_policy_text, by_fallback_text, row_text, rows_text, access_text, status_text, refusal_text}
+use Rattle.line_answers.specs.Answers.{accepted_text, erased_text, by_policy_text, by_fallback_text, row_text}
+use Rattle.line_answers.specs.Answers.{rows_text, decided_text, status_text, refusal_text}
 use Rattle.level_requests.specs.declared.requests.LevelRequest.{LevelRequest}
 use Rattle.policy_levels.specs.Command.{command_of}
 use Rattle.policy_levels.specs.Levels.{levels_in}
@@ -107,9 +108,6 @@ list_text policies = flat_map policy_text policies ++ rows_text (length policies
 -- a question about a bucket that is not there is refused
 abbrev pub about : Database → List ℕ → List ℕ → List ℕ
 about database name text = if has_bucket name database then text else refusal_text (NoBucket name)
-
-abbrev pub decided_text : Decision → List ℕ
-decided_text decided = access_text decided.allowed decided.rule
 
 -- the decision on a request under the rules of all packages, with those of the open shares behind them
 abbrev pub decided : DeskState → List Share → List ℕ → List ℕ → Modes → Decision

@@ -1,11 +1,12 @@
 -- What a script is, and how it is answered: from its bytes to its steps, and from a policy state along them.
-use Rattle.std.specs.Prelude.{◌≡◌, ℕ, ◌+◌, ◌<◌, take, nat_lt, if◌then◌else◌, List, [], ◌∷◌, ◌++◌, length, Option, Some, None, Result, Ok, Err}
+use Rattle.std.specs.Prelude.{◌≡◌, ℕ, ◌+◌, ◌<◌, take, nat_lt, if◌then◌else◌, List, [], ◌∷◌, ◌++◌, length, Option, Some}
+use Rattle.std.specs.Prelude.{None, Result, Ok, Err}
 use Rattle.std.specs.Option.{option_map_or}
 use Rattle.text_lines.specs.Lines.{pieces_of, lines_within}
 use Rattle.line_script.specs.Block.{Block, outside}
 use Rattle.line_script.specs.Grammar.{step_at}
 use Rattle.line_script.specs.Turn.{is_in_block}
-use Rattle.line_script.specs.declared.places.Place.{Place}
+use Rattle.script_words.specs.declared.places.Place.{Place}
 use Rattle.line_script.specs.declared.steps.Step.{Step}
 use Rattle.desk_state.specs.DeskState.{DeskState}
 use Rattle.private_sharing.specs.declared.shares.Share.{Share}
@@ -56,7 +57,8 @@ wrong_line script = wrong_at script.stands
 -- the answers to steps, each at the state and with the shares that those before it leave
 abbrev pub replies : DeskState → List Share → List Step → List ℕ
 replies desk shares [] = []
-replies desk shares (step ∷ steps) = reply desk shares step ++ replies (after desk step) (shares_after desk shares step) steps
+replies desk shares (step ∷ steps) = reply desk shares step ++ replies (after desk step)
+    (shares_after desk shares step) steps
 
 -- the state behind steps
 abbrev pub state_after : DeskState → List Step → DeskState

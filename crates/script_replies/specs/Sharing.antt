@@ -9,8 +9,10 @@ use Rattle.private_sharing.specs.Shares.{count_of, opened, closed}
 use Rattle.private_sharing.specs.Refusal.{open_fault, close_fault}
 use Rattle.private_sharing.specs.declared.shares.Share.{Share}
 use Rattle.private_sharing.specs.declared.refusals.ShareRefusal.{ShareRefusal}
-use Rattle.private_sharing.specs.declared.refusals.ShareRefusal.TheVariants.{UnknownApp, SameLabel, NotShared, Most, Memory}
-use Rattle.line_script.specs.Answers.{shared_text, rule_row_text, rule_rows_text, unknown_app_text, same_label_text, not_shared_text, share_limit_text}
+use Rattle.private_sharing.specs.declared.refusals.ShareRefusal.TheVariants.{UnknownApp, SameLabel, NotShared, Most}
+use Rattle.private_sharing.specs.declared.refusals.ShareRefusal.TheVariants.{Memory}
+use Rattle.line_answers.specs.Answers.{shared_text, rule_row_text, rule_rows_text, unknown_app_text, same_label_text}
+use Rattle.line_answers.specs.Answers.{not_shared_text, share_limit_text}
 
 -- why a share is not opened or closed; want of memory is no refusal
 abbrev pub share_refusal_text : ShareRefusal → List ℕ

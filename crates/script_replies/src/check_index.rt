@@ -27,6 +27,7 @@ impl Model for CheckIndex {
 }
 
 impl CheckIndex {
+    /// The index of these policies. Fails only for want of memory.
     pub fn build(alloc: Global, database: &Database) -> Result<CheckIndex, AllocError>
         ensures { IfOk result (λ indexed. indexed ≡ database.now) }
     {

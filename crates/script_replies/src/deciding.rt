@@ -6,8 +6,8 @@ ghost use Rattle.smack_rules.specs.Table.{granted};
 
 use smack_rules::{Decision, Label, Modes, RuleTable};
 
-/// The decision under what the table grants, with more modes beside it, which no case before the last two is about: where the
-/// table alone does not allow what is asked, it is asked for the rest.
+/// The decision under what the table grants, with more modes beside it, which no case before the last two is about:
+/// where the table alone does not allow what is asked, it is asked for the rest.
 pub(crate) fn decide_with(
     table: &RuleTable,
     more: Modes,
@@ -18,7 +18,8 @@ pub(crate) fn decide_with(
     requires request { IsTrue (is_request asked) }
     requires hat { word.is_hat subject.now ≡ true → more ≡ no_access }
     requires floor { word.is_floor object.now ≡ true → more ≡ no_access }
-    ensures { result ≡ word.decision subject.now object.now asked (union (granted table.now subject.now object.now) more) }
+    ensures { result ≡ word.decision subject.now object.now asked
+        (union (granted table.now subject.now object.now) more) }
 {
     let decision = table.decide(subject, object, asked);
     if decision.rule != 7 {

@@ -28,8 +28,8 @@ use std::marker::Model;
 /// How many checks of a policy state are answered from its buckets. To make an index costs as much as some of these.
 const FEW_CHECKS: u32 = 64;
 
-/// The table of the rules of all packages of a policy state, and the rules that the open shares give, once they were asked
-/// for; and an index of its policies, once many checks were.
+/// The table of the rules of all packages of a policy state, and the rules that the open shares give, once they were
+/// asked for; and an index of its policies, once many checks were.
 #[derive(Drop)]
 pub struct FoldedRules {
     table: Option<RuleTable>,
@@ -81,11 +81,13 @@ impl FoldedRules {
         out: &mut Bytes,
     ) -> Result<(), AllocError>
         requires indexed { IsIndexed self.old desk.now }
-        ensures ok { OnOk result (out.new ≡ out.old ++ verdict_text desk.now.commit (root_outcome desk.now.database question.now)) }
+        ensures ok { OnOk result (out.new ≡ out.old
+            ++ verdict_text desk.now.commit (root_outcome desk.now.database question.now)) }
         ensures err { OnErr result (out.new ≡ out.old) }
         ensures same { self.new ≡ record self.old { indexed = self.new.indexed } }
         ensures indexed { IsIndexed self.new desk.now }
-        ensures folded { (shares : List Share) → AreFolded self.old desk.now shares → AreFolded self.new desk.now shares }
+        ensures folded { (shares : List Share) → AreFolded self.old desk.now shares
+            → AreFolded self.new desk.now shares }
     {
         self.count_check(alloc, desk);
         match &mut self.index {
@@ -97,8 +99,8 @@ impl FoldedRules {
         }
     }
 
-    // Makes an index of this state where many checks were asked of it. Without memory for one it is tried again after as
-    // many.
+    // Makes an index of this state where many checks were asked of it. Without memory for one it is tried again after
+    // as many.
     fn count_check(&mut self, alloc: Global, desk: &Desk)
         requires indexed { IsIndexed self.old desk.now }
         ensures same { self.new ≡ record self.old { indexed = self.new.indexed } }
@@ -115,8 +117,9 @@ impl FoldedRules {
         self.index = CheckIndex::build(alloc, desk.database()).ok();
     }
 
-    /// The decision on a request under the rules of this state, with those of these shares behind them; where rules are folded,
-    /// they are its own. Once all are folded, it costs a look into the table and one at each rule that the shares give.
+    /// The decision on a request under the rules of this state, with those of these shares behind them; where rules are
+    /// folded, they are its own. Once all are folded, it costs a look into the table and one at each rule that the
+    /// shares give.
     pub fn decide(
         &mut self,
         desk: &Desk,
@@ -127,7 +130,8 @@ impl FoldedRules {
     ) -> Result<Decision, AllocError>
         requires request { IsTrue (is_request asked) }
         requires folded { AreFolded self.old desk.now shares.now }
-        ensures decision { IfOk result (λ decision. decision ≡ decided desk.now shares.now subject.now object.now asked) }
+        ensures decision { IfOk result (λ decision. decision
+            ≡ decided desk.now shares.now subject.now object.now asked) }
         ensures folded { AreFolded self.new desk.now shares.now }
     {
         let table = match self.table.take() {
@@ -157,7 +161,8 @@ fn given_rules(
     }
 }
 
-// The decision under the rules of a table, with these behind them. They take nothing away, so that they give modes more.
+// The decision under the rules of a table, with these behind them. They take nothing away, so that they give modes
+// more.
 fn decide_behind(
     table: &RuleTable,
     given: &[Rule],

@@ -2,10 +2,11 @@
 ghost use Rattle.std.specs.Prelude.{◌≡◌, ◌++◌, true, None, IfOk, OnOk, OnErr};
 ghost use Rattle.std.specs.Option.{option_to_list};
 ghost use Rattle.cynara_keys.specs.Field.{field_of, field_fault};
-ghost use Rattle.line_script.specs.Answers.{level_answer_text};
-ghost use Rattle.line_script.specs.parts.Appending.{Lengthens};
+ghost use Rattle.line_answers.specs.Answers.{level_answer_text};
+ghost use Rattle.line_answers.specs.parts.Appending.{Lengthens};
 ghost use Rattle.policy_levels.specs.Levels.{exact_name, levels_in};
-ghost use Rattle.script_replies.specs.Levels.{level_refusal_text, names_level_rule, level_row_text, level_rows_text, clients_in, privileges_in};
+ghost use Rattle.script_replies.specs.Levels.{level_refusal_text, names_level_rule, level_row_text, level_rows_text};
+ghost use Rattle.script_replies.specs.Levels.{clients_in, privileges_in};
 ghost use Rattle.script_replies.specs.Levels.{pair_text, pair_rows_text, audit_among, audit_reply};
 
 use app_registry::NameSet;
@@ -13,7 +14,7 @@ use cynara_keys::{Key, Name, NameRefusal};
 use desk_ports::Bytes;
 use desk_state::{Desk, Refusal};
 use effective_audit::{AuditRefusal, Pair, audit};
-use line_script::{LevelAnswer, LineAnswer, RuleBroken, print};
+use line_answers::{LevelAnswer, LineAnswer, RuleBroken, print};
 use policy_levels::{LevelRefusal, LevelRow, levels_of};
 use std::alloc::{AllocError, Global};
 
@@ -104,8 +105,8 @@ fn print_level_row(row: &LevelRow, out: &mut Bytes) -> Result<(), AllocError>
 
 // ---- audits
 
-/// Prints the pairs of an application and a privilege that are allowed to a user, among those that installs name, a line each,
-/// and how many they are; or that there are too many to ask about.
+/// Prints the pairs of an application and a privilege that are allowed to a user, among those that installs name, a
+/// line each, and how many they are; or that there are too many to ask about.
 pub fn print_audit(
     alloc: Global,
     desk: &Desk,

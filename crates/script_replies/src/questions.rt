@@ -1,5 +1,6 @@
 // The answers to commands and to questions at a policy state.
-ghost use Rattle.std.specs.Prelude.{◌≡◌, ◌<◌, ◌≤◌, ◌++◌, true, length, slice_get, List, ℕ, IfSome, IsSome, Some, None, OnOk, OnErr};
+ghost use Rattle.std.specs.Prelude.{◌≡◌, ◌<◌, ◌≤◌, ◌++◌, true, length, slice_get, List, ℕ, IfSome, IsSome, Some, None};
+ghost use Rattle.std.specs.Prelude.{OnOk, OnErr};
 ghost use Rattle.std.specs.List.{flat_map, position};
 ghost use Rattle.cynara_keys.specs.Text.{same_text};
 ghost use Rattle.bucket_store.specs.Database.{root};
@@ -7,12 +8,12 @@ ghost use Rattle.bucket_store.specs.Change.{listed};
 ghost use Rattle.bucket_eval.specs.Evaluation.{answer};
 ghost use Rattle.bucket_eval.specs.Found.{outcome_at};
 ghost use Rattle.bucket_eval.specs.Lent.{outcome_lent};
-ghost use Rattle.line_script.specs.Answers.{refusal_text};
-ghost use Rattle.line_script.specs.Refusals.{names_a_rule};
-ghost use Rattle.line_script.specs.parts.Appending.{Lengthens};
+ghost use Rattle.line_answers.specs.Answers.{refusal_text};
+ghost use Rattle.line_answers.specs.Refusals.{names_a_rule};
+ghost use Rattle.line_answers.specs.parts.Appending.{Lengthens};
 ghost use Rattle.desk_state.specs.IsDesk.{IsDesk};
 ghost use Rattle.desk_state.specs.declared.refusals.Refusal.TheVariants.{NoBucket};
-ghost use Rattle.script_replies.specs.Reply.{about, verdict_text, policy_text, list_text, done_text, decided_text};
+ghost use Rattle.script_replies.specs.Reply.{about, verdict_text, policy_text, list_text, done_text};
 ghost use Rattle.script_replies.specs.parts.Questions.{WantsMemory};
 
 use bucket_eval::{BorrowedAnswer, Found, lend, plain_borrowed};
@@ -20,8 +21,7 @@ use bucket_store::{Database, StoreRefusal};
 use cynara_keys::{BorrowedQuestion, BucketName, Filter, Key, Policy, PolicyResult};
 use desk_ports::Bytes;
 use desk_state::{Command, Desk, Refusal};
-use line_script::{LineAnswer, RuleBroken, print};
-use smack_rules::Decision;
+use line_answers::{LineAnswer, RuleBroken, print};
 use std::alloc::AllocError;
 
 /// Prints the verdict of a bucket on a question, or that the bucket is not there.
@@ -57,7 +57,8 @@ fn place_of(database: &Database, name: &BucketName) -> Option<usize>
     }
 }
 
-/// Prints the policies of a bucket that a filter admits, a row each, and how many they are; or that the bucket is not there.
+/// Prints the policies of a bucket that a filter admits, a row each, and how many they are; or that the bucket is not
+/// there.
 pub fn print_list(
     desk: &Desk,
     bucket: &BucketName,
@@ -249,16 +250,4 @@ pub fn print_done(
         ),
         _ => print(&LineAnswer::Accepted { commit }, out),
     }
-}
-
-/// Prints a decision of Smack.
-pub fn print_decision(decision: &Decision, out: &mut Bytes) -> Result<(), AllocError>
-    ensures ok { OnOk result (out.new ≡ out.old ++ decided_text decision.now) }
-    ensures err { OnErr result (out.new ≡ out.old) }
-{
-    let answer = LineAnswer::Access {
-        allowed: decision.allowed,
-        rule: decision.rule,
-    };
-    print(&answer, out)
 }

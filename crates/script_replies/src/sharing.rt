@@ -1,12 +1,13 @@
 // The answers to lines on shares.
 ghost use Rattle.std.specs.Prelude.{◌≡◌, ◌++◌, true, OnOk, OnErr};
-ghost use Rattle.line_script.specs.Answers.{shared_text, share_answer_text};
-ghost use Rattle.line_script.specs.parts.Appending.{Lengthens};
-ghost use Rattle.script_replies.specs.Sharing.{share_refusal_text, names_share_rule, rule_text, rules_text, shares_reply};
+ghost use Rattle.line_answers.specs.Answers.{shared_text, share_answer_text};
+ghost use Rattle.line_answers.specs.parts.Appending.{Lengthens};
+ghost use Rattle.script_replies.specs.Sharing.{share_refusal_text, names_share_rule, rule_text, rules_text};
+ghost use Rattle.script_replies.specs.Sharing.{shares_reply};
 
 use desk_ports::Bytes;
 use desk_state::Desk;
-use line_script::{LineAnswer, ShareAnswer, print};
+use line_answers::{LineAnswer, ShareAnswer, print};
 use private_sharing::{ShareRefusal, Shares};
 use smack_rules::Rule;
 use std::alloc::AllocError;

@@ -7,9 +7,9 @@ use Rattle.link_ports.specs.NetCounts.{count_after_close}
 use Rattle.link_ports.specs.Told.{AppendsTold}
 use Rattle.link_ports.specs.declared.door_kinds.DoorKind.{DoorKind}
 use Rattle.link_ports.specs.declared.door_kinds.DoorKind.TheVariants.{Admin}
-use Rattle.door_workers.specs.Visit.{door_faults_after}
-use Rattle.door_workers.specs.declared.workers.WorkerEnd.{WorkerEnd}
-use Rattle.door_workers.specs.declared.workers.WorkerEnd.TheVariants.{DoorFailed}
+use Rattle.desk_server.specs.Visit.{door_faults_after}
+use Rattle.desk_server.specs.declared.workers.WorkerEnd.{WorkerEnd}
+use Rattle.desk_server.specs.declared.workers.WorkerEnd.TheVariants.{DoorFailed}
 use Rattle.run_endings.specs.declared.endings.Ending.{Ending}
 use Rattle.run_endings.specs.declared.endings.Ending.TheVariants.{Done, Memory, Words, Line, Source, Sink, Disk, Net, Damaged, Reply}
 use Rattle.run_endings.specs.declared.endings.Ending.TheVariants.{TooLong}

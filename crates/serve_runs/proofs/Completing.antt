@@ -5,7 +5,7 @@ use Rattle.link_ports.specs.Traffic.{Traffic}
 use Rattle.link_ports.specs.LinkMarks.{LinkMarks}
 use Rattle.link_ports.specs.declared.door_kinds.DoorKind.{DoorKind}
 use Rattle.desk_state.specs.DeskState.{DeskState}
-use Rattle.door_workers.specs.declared.workers.WorkerEnd.{WorkerEnd}
+use Rattle.desk_server.specs.declared.workers.WorkerEnd.{WorkerEnd}
 use Rattle.run_endings.specs.Ending.{disk_faults_after, Unraised}
 use Rattle.run_endings.specs.Outside.{DiskSeen}
 use Rattle.run_endings.specs.Saying.{silence}

@@ -10,11 +10,11 @@ use Rattle.link_ports.specs.declared.door_kinds.DoorKind.{DoorKind}
 use Rattle.desk_state.specs.DeskState.{DeskState}
 use Rattle.live_desk.specs.Seat.{SeatState, new_seat, new_seats}
 use Rattle.server_hall.specs.StopNews.{StopsTold, unasked}
-use Rattle.door_workers.specs.Visit.{Works, EndsWorking, door_faults_after}
-use Rattle.door_workers.specs.Clients.{VisitsClients}
-use Rattle.door_workers.specs.Agents.{VisitsAgents}
-use Rattle.door_workers.specs.declared.workers.WorkerEnd.{WorkerEnd}
-use Rattle.door_workers.specs.declared.workers.WorkerEnd.TheVariants.{Stopped, DoorFailed, Memory, Alone, Unstarted}
+use Rattle.desk_server.specs.Visit.{Works, EndsWorking, door_faults_after}
+use Rattle.desk_server.specs.Clients.{VisitsClients}
+use Rattle.desk_server.specs.Agents.{VisitsAgents}
+use Rattle.desk_server.specs.declared.workers.WorkerEnd.{WorkerEnd}
+use Rattle.desk_server.specs.declared.workers.WorkerEnd.TheVariants.{Stopped, DoorFailed, Memory, Alone, Unstarted}
 use Rattle.serve_runs.specs.Crew.{EndedWorker, ends_of, doors_of, lacks_memory, is_alone, is_deserted, posts_with, WorksFor, Serves}
 use Rattle.serve_runs.specs.Serving.{HasRisen}
 use Rattle.serve_runs.specs.declared.crews.Station.{Station}

@@ -15,10 +15,10 @@ use Rattle.link_ports.specs.Traffic.{Traffic}
 use Rattle.link_ports.specs.LinkMarks.{LinkMarks}
 use Rattle.admin_door.specs.Serving.{Exchange}
 use Rattle.admin_door.specs.Running.{LeadsTo, ComesFrom, IsReached, RunsOver}
-use Rattle.door_workers.specs.Visit.{Visit, Works}
-use Rattle.door_workers.specs.Administrators.{Office, VisitsOffice}
-use Rattle.door_workers.specs.declared.workers.WorkerEnd.{WorkerEnd}
-use Rattle.door_workers.proofs.Offices.{office-holds}
+use Rattle.desk_server.specs.Visit.{Visit, Works}
+use Rattle.desk_server.specs.Administrators.{Office, VisitsOffice}
+use Rattle.desk_server.specs.declared.workers.WorkerEnd.{WorkerEnd}
+use Rattle.desk_server.proofs.Offices.{office-holds}
 use Rattle.run_endings.specs.Outside.{DiskSeen, disk_seen}
 use Rattle.run_endings.specs.Saying.{silence}
 use Rattle.run_endings.specs.declared.endings.Ending.TheVariants.{Memory}

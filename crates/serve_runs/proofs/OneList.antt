@@ -12,8 +12,8 @@ use Rattle.client_door.specs.Answered.{Answered, IsRight, AreReadIn}
 use Rattle.client_door.specs.Serving.{ClientSide, Serves}
 use Rattle.client_door.specs.Serving.Serves.{unbegun, refused, served}
 use Rattle.client_door.proofs.Published.{stands_in_more}
-use Rattle.door_workers.specs.Visit.{Visit, InTurn}
-use Rattle.door_workers.specs.Clients.{VisitsClients}
+use Rattle.desk_server.specs.Visit.{Visit, InTurn}
+use Rattle.desk_server.specs.Clients.{VisitsClients}
 use Rattle.serve_runs.specs.OneList.{IsOfList, AllOfList, EachOfList}
 
 of_list : (published seen : List DeskState) (low : ℕ) (answered : List Answered) → GoesOn seen published → AllByRecursion IsRight answered

@@ -10,11 +10,11 @@ use Rattle.desk_state.specs.DeskState.{DeskState}
 use Rattle.live_desk.specs.History.{GoesOn}
 use Rattle.live_desk.specs.Seat.{SeatState, new_seats}
 use Rattle.server_hall.specs.StopNews.{StopsTold, unasked}
-use Rattle.door_workers.specs.Visit.{Works, EndsWorking}
-use Rattle.door_workers.specs.Clients.{VisitsClients}
-use Rattle.door_workers.specs.Agents.{VisitsAgents}
-use Rattle.door_workers.specs.declared.workers.WorkerEnd.{WorkerEnd}
-use Rattle.door_workers.specs.declared.workers.WorkerEnd.TheVariants.{Memory as LacksMemory, Alone, Unstarted}
+use Rattle.desk_server.specs.Visit.{Works, EndsWorking}
+use Rattle.desk_server.specs.Clients.{VisitsClients}
+use Rattle.desk_server.specs.Agents.{VisitsAgents}
+use Rattle.desk_server.specs.declared.workers.WorkerEnd.{WorkerEnd}
+use Rattle.desk_server.specs.declared.workers.WorkerEnd.TheVariants.{Memory as LacksMemory, Alone, Unstarted}
 
 -- Whom a worker serves: clients in the place of a seat; or, without one, agents.
 abbrev pub kind_for : Option SeatState → DoorKind

@@ -9,8 +9,8 @@ use Rattle.door_frames.specs.declared.endings.Ended.{Ended}
 use Rattle.client_door.specs.Answered.{Answered, IsRight, StandsIn}
 use Rattle.client_door.specs.Serving.{ClientSide, Serves}
 use Rattle.client_door.specs.Serving.Serves.{unbegun, refused, served}
-use Rattle.door_workers.specs.Visit.{Visit, InTurn}
-use Rattle.door_workers.specs.Clients.{VisitsClients}
+use Rattle.desk_server.specs.Visit.{Visit, InTurn}
+use Rattle.desk_server.specs.Clients.{VisitsClients}
 
 -- The reply is the one that a state of the list gives, or an agent asked by that state.
 abbrev pub IsOfList : List DeskState → Answered → Type 0

@@ -9,10 +9,10 @@ use Rattle.link_ports.specs.declared.door_kinds.DoorKind.{DoorKind}
 use Rattle.link_ports.specs.declared.door_kinds.DoorKind.TheVariants.{Admin}
 use Rattle.desk_state.specs.DeskState.{DeskState}
 use Rattle.server_hall.specs.StopNews.{StopsTold, unasked}
-use Rattle.door_workers.specs.Visit.{Works}
-use Rattle.door_workers.specs.Administrators.{Office, VisitsOffice, EndsOffice}
-use Rattle.door_workers.specs.declared.workers.WorkerEnd.{WorkerEnd}
-use Rattle.door_workers.specs.declared.workers.WorkerEnd.TheVariants.{Stopped}
+use Rattle.desk_server.specs.Visit.{Works}
+use Rattle.desk_server.specs.Administrators.{Office, VisitsOffice, EndsOffice}
+use Rattle.desk_server.specs.declared.workers.WorkerEnd.{WorkerEnd}
+use Rattle.desk_server.specs.declared.workers.WorkerEnd.TheVariants.{Stopped}
 use Rattle.run_endings.specs.declared.endings.Ending.{Ending}
 use Rattle.run_endings.specs.declared.endings.Ending.TheVariants.{Done, Memory, Disk, Net}
 use Rattle.serve_runs.specs.Crew.{EndedWorker, ends_of, doors_of, lacks_memory, is_deserted, posts, Serves}

@@ -11,7 +11,7 @@ use crate::watches::keep_watch;
 use check_monitor::Alarm;
 use desk_keeper::Keeper;
 use desk_ports::Disk;
-use door_workers::{Notes, WorkerEnd, work_for_administrators};
+use desk_server::{Notes, WorkerEnd, work_for_administrators};
 use link_ports::{Dial, Door, DoorKind, HangEnd, Link, Net};
 use live_desk::{Naming, Publisher};
 use live_roll::Roll;

@@ -12,7 +12,7 @@ use crate::endings::lacks_memory;
 use crate::musters::Muster;
 use crate::telling::{note_alone, note_end};
 use check_monitor::Alarm;
-use door_workers::{ClientDuty, Notes, WorkerEnd, work_for_agents};
+use desk_server::{ClientDuty, Notes, WorkerEnd, work_for_agents};
 use link_ports::{Door, DoorKind, Gate, HangEnd, Link};
 use live_desk::{Naming, Publisher, Seat};
 use live_roll::Roll;

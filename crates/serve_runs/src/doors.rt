@@ -10,7 +10,7 @@ ghost use Rattle.serve_runs.specs.declared.crews.Worker.{Worker};
 
 use crate::crews::{AGENT_WORKERS, Station, Worker, put, put_back};
 use desk_ports::PortFault;
-use door_workers::ClientDuty;
+use desk_server::ClientDuty;
 use link_ports::{DoorKind, Net};
 use live_desk::Naming;
 use run_endings::Ending;

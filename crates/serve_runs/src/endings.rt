@@ -5,7 +5,7 @@ ghost use Rattle.serve_runs.specs.Serving.{HasRisen, HasNotRisen};
 ghost use Rattle.serve_runs.specs.Crew.{is_lacking, is_alone};
 ghost use Rattle.serve_runs.specs.parts.Officiating.{EndsBy};
 
-use door_workers::WorkerEnd;
+use desk_server::WorkerEnd;
 use run_endings::Ending;
 
 /// By what was met, and by the counts of the disk and of the net before and now: want of memory or of a thread comes first, and

@@ -3,8 +3,8 @@ ghost use Rattle.std.specs.Prelude.{List};
 ghost use Rattle.desk_state.specs.DeskState.{DeskState};
 ghost use Rattle.live_desk.specs.History.{GoesOn};
 ghost use Rattle.live_desk.specs.Seat.{SeatState};
-ghost use Rattle.door_workers.specs.Visit.{Visit, InTurn};
-ghost use Rattle.door_workers.specs.Clients.{VisitsClients};
+ghost use Rattle.desk_server.specs.Visit.{Visit, InTurn};
+ghost use Rattle.desk_server.specs.Clients.{VisitsClients};
 ghost use Rattle.serve_runs.specs.OneList.{EachOfList};
 
 use link_ports::Link;

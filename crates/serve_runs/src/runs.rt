@@ -12,7 +12,7 @@ use crate::telling::note_over;
 use check_monitor::Alarm;
 use desk_keeper::{Keeper, KeptDesk};
 use desk_ports::Disk;
-use door_workers::{ClientDuty, Notes, Unrecorded};
+use desk_server::{ClientDuty, Notes, Unrecorded};
 use folder_runs::ending_of_mount;
 use link_ports::{Dial, Door, Gate, Link, Net};
 use run_endings::Ending;

@@ -1,5 +1,5 @@
 // What a person who keeps the service is told. No clause speaks of it.
-use door_workers::{Notes, WorkerEnd};
+use desk_server::{Notes, WorkerEnd};
 use link_ports::DoorKind;
 
 /// The service can be connected to.

@@ -6,8 +6,8 @@ use Rattle.server_hall.specs.Tally.{Tally, no_calls}
 use Rattle.server_hall.specs.declared.calls.HallCall.{HallCall}
 use Rattle.server_hall.specs.declared.list_answers.HallAnswer.{HallAnswer}
 
--- the answers that are left, the last one to come first; its table, of which `service` tells; its roll; what it counts; and
--- its calls, until its answers are used up
+-- the answers that are left, the last one to come first; its table, of which `service` tells; its roll; what it counts;
+-- and its calls, until its answers are used up
 pub record HeldHall (H : Type 0) : Type 0 where
   pub left : List HallAnswer
   pub table : Table

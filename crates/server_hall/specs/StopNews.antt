@@ -2,8 +2,8 @@
 use Rattle.std.specs.Prelude.{ℕ, Bool, true, false}
 use Rattle.desk_ports.specs.Faults.{next_count}
 
--- How often it asked whether the service is stopped, and how often it was told that it is. The counts stand still at their last
--- value.
+-- How often it asked whether the service is stopped, and how often it was told that it is. The counts stand still at
+-- their last value.
 pub record StopsTold : Type 0 where
   pub asks : ℕ
   pub stops : ℕ

@@ -8,14 +8,16 @@ use Rattle.agent_table.specs.Refusals.{RefusesQuestion, told}
 use Rattle.agent_table.specs.declared.refusals.PutRefusal.{PutRefusal}
 use Rattle.agent_table.specs.declared.refusals.PutRefusal.TheVariants.{Stopped as NoneIsPut}
 use Rattle.agent_table.specs.declared.refusals.TakeRefusal.{TakeRefusal}
-use Rattle.agent_table.specs.declared.refusals.TakeRefusal.TheVariants.{UnknownNumber, AgentGone, Stopped as NoneIsTaken}
+use Rattle.agent_table.specs.declared.refusals.TakeRefusal.TheVariants.{UnknownNumber, AgentGone}
+use Rattle.agent_table.specs.declared.refusals.TakeRefusal.TheVariants.{Stopped as NoneIsTaken}
 use Rattle.agent_table.specs.declared.refusals.TakeRefusal.TheVariants.{NotYet as NoAnswer}
 use Rattle.agent_table.specs.declared.table.Asked.{Asked}
 use Rattle.agent_table.specs.declared.table.Taken.{Taken}
 use Rattle.server_hall.specs.declared.refusals.AskRefusal.{AskRefusal}
 use Rattle.server_hall.specs.declared.refusals.AskRefusal.TheVariants.{Put, Gone, Stopped, Lost}
 use Rattle.server_hall.specs.declared.refusals.NextRefusal.{NextRefusal}
-use Rattle.server_hall.specs.declared.refusals.NextRefusal.TheVariants.{Stopped as NoneIsGiven, Memory as NoRoom, Left as AgentLeft}
+use Rattle.server_hall.specs.declared.refusals.NextRefusal.TheVariants.{Stopped as NoneIsGiven, Memory as NoRoom}
+use Rattle.server_hall.specs.declared.refusals.NextRefusal.TheVariants.{Left as AgentLeft}
 use Rattle.server_hall.specs.Tally.{IsNamedForItself}
 use Rattle.server_hall.specs.Found.{IsOfTheTable}
 use Rattle.server_hall.specs.declared.table_calls.Awaited.{Awaited}

@@ -4,7 +4,8 @@ ghost use Rattle.link_ports.specs.Told.{KeepsTold};
 ghost use Rattle.live_desk.specs.History.{last_commit};
 ghost use Rattle.live_desk.specs.Seat.{with_note};
 ghost use Rattle.server_hall.specs.Tally.{Tally, after_enter, after_leave, IsRaised, after_hang, after_ask, after_join};
-ghost use Rattle.server_hall.specs.Tally.{after_next, after_answer, after_look, after_part, after_stop, IsNamedForItself};
+ghost use Rattle.server_hall.specs.Tally.{after_next, after_answer, after_look};
+ghost use Rattle.server_hall.specs.Tally.{after_part, after_stop, IsNamedForItself};
 ghost use Rattle.server_hall.specs.Told.{AppendsCalls};
 ghost use Rattle.server_hall.specs.Found.{marks_after_ask, CountsAsk, marks_after_next, CountsNext};
 ghost use Rattle.agent_table.specs.Table.{KindsRise};
@@ -19,9 +20,9 @@ use live_desk::{Naming, Publisher, Seat};
 use live_roll::{Left, Stopped};
 use std::alloc::{AllocError, Global};
 
-/// What all connections of a service share: the roll of the connections that a commit has to hang up, and the questions to
-/// agents. A call may wait. Every hall tells its tally; it may tell the list of its calls of `ask`, `join`, `next`, `answer`
-/// and `is_open`.
+/// What all connections of a service share: the roll of the connections that a commit has to hang up, and the questions
+/// to agents. A call may wait. Every hall tells its tally; it may tell the list of its calls of `ask`, `join`, `next`,
+/// `answer` and `is_open`.
 pub trait Hall {
     /// What hangs a connection of a client up.
     type End: HangEnd;
@@ -35,9 +36,9 @@ pub trait Hall {
     /// What it would tell of the service now, where the hall exposes that.
     ghost told: { Self → Option ServiceTold };
 
-    /// A connection enters, in the place of the seat. The seat is told the commit at which it enters, which is answered:
-    /// each commit that was acknowledged before is no higher. Refuses `Stopped`; the end is then dropped, and the seat is as
-    /// before.
+    /// A connection enters, in the place of the seat. The seat is told the commit at which it enters, which is
+    /// answered: each commit that was acknowledged before is no higher. Refuses `Stopped`; the end is then dropped, and
+    /// the seat is as before.
     fn enter<J: Naming>(&mut self, end: Self::End, seat: &mut Seat<J>) -> Result<u64, Stopped>
         requires { Self.End.used end ≡ false }
         ensures tally { tally self.new ≡ after_enter result (tally self.old) }
@@ -45,11 +46,12 @@ pub trait Hall {
         ensures told { IfOk result (λ note. seat.new ≡ with_note note seat.old) }
         ensures untold { OnErr result (seat.new ≡ seat.old) };
 
-    /// A connection leaves that entered at this commit in the place of this seat. `Hung` where a later commit has hung it
-    /// up, and else `Stopped` where the service is stopped.
+    /// A connection leaves that entered at this commit in the place of this seat. `Hung` where a later commit has hung
+    /// it up, and else `Stopped` where the service is stopped.
     fn leave(&mut self, seat: u32, entered: u64) -> Left
         requires { seat < 64 }
-        ensures tally { tally self.new ≡ after_leave (record { seat = seat; entered = entered; left = result }) (tally self.old) }
+        ensures tally { tally self.new
+            ≡ after_leave (record { seat = seat; entered = entered; left = result }) (tally self.old) }
         ensures calls { calls self.new ≡ calls self.old }
         ensures raised { IsRaised entered result };
 
@@ -58,9 +60,9 @@ pub trait Hall {
         ensures tally { tally self.new ≡ after_hang (last_commit 0 publisher.now) (tally self.old) }
         ensures calls { calls self.new ≡ calls self.old };
 
-    /// Puts a question to the agent of the kind, and waits for its answer: the number of the question, and the question that
-    /// was found under it with the answer. Want of memory is `Put` of it. While it waits it looks each tenth of a second
-    /// whether the asker's link is up. Where it is not, the question is taken away, and refused as `Withdrawn`.
+    /// Puts a question to the agent of the kind, and waits for its answer: the number of the question, and the question
+    /// that was found under it with the answer. Want of memory is `Put` of it. While it waits it looks each tenth of a
+    /// second whether the asker's link is up. Where it is not, the question is taken away, and refused as `Withdrawn`.
     fn ask<L: Link>(
         &mut self,
         kind: Kind,
@@ -86,16 +88,16 @@ pub trait Hall {
         ensures marks { L.marks link.new ≡ marks_after_ask result (L.marks link.old) }
         ensures faults { CountsAsk result (L.faults link.old) (L.faults link.new) };
 
-    /// An agent comes for the kind. Refuses `Stopped`, `Taken` where the kind has an agent, and `Full` where as many kinds
-    /// have one as may.
+    /// An agent comes for the kind. Refuses `Stopped`, `Taken` where the kind has an agent, and `Full` where as many
+    /// kinds have one as may.
     fn join(&mut self, kind: Kind) -> Result<(), RegisterRefusal>
         requires { IsTrue (is_agent kind.0) }
         ensures tally { tally self.new ≡ after_join (record { kind = kind; result = result }) (tally self.old) }
         ensures calls { AppendsCalls (calls self.old)
             (call.HallCall.Join (record { kind = kind; result = result }) ∷ []) (calls self.new) };
 
-    /// Waits until there is a question for the agent of the kind, and gives it. Refuses `Stopped`. While it waits it looks
-    /// each tenth of a second whether the agent's link is up. Where it is not, the agent has `Left`.
+    /// Waits until there is a question for the agent of the kind, and gives it. Refuses `Stopped`. While it waits it
+    /// looks each tenth of a second whether the agent's link is up. Where it is not, the agent has `Left`.
     fn next<L: Link>(&mut self, kind: Kind, link: &mut L) -> Result<Asked, NextRefusal>
         requires { IsTrue (is_agent kind.0) }
         ensures tally { tally self.new ≡ after_next (record { kind = kind; result = result }) (tally self.old) }
@@ -122,8 +124,8 @@ pub trait Hall {
           result = result;
         }) ∷ []) (calls self.new) };
 
-    /// Whether the question of the number still waits for its answer: it is not answered, was not taken away, its agent is
-    /// still there, and the service is not stopped.
+    /// Whether the question of the number still waits for its answer: it is not answered, was not taken away, its agent
+    /// is still there, and the service is not stopped.
     fn is_open(&mut self, number: u32) -> bool
         ensures tally { tally self.new ≡ after_look (record { number = number; «open» = result }) (tally self.old) }
         ensures calls { AppendsCalls (calls self.old) (call.HallCall.Look number result ∷ []) (calls self.new) };
@@ -134,8 +136,8 @@ pub trait Hall {
         ensures tally { tally self.new ≡ after_part kind (tally self.old) }
         ensures calls { calls self.new ≡ calls self.old };
 
-    /// What the service tells of itself: the kinds that have an agent, and how many workers serve clients. Changes nothing:
-    /// neither the table nor the roll, and it counts no call. Fails for want of memory alone.
+    /// What the service tells of itself: the kinds that have an agent, and how many workers serve clients. Changes
+    /// nothing: neither the table nor the roll, and it counts no call. Fails for want of memory alone.
     fn service(&self, alloc: Global) -> Result<ServiceView, AllocError>
         ensures told { (told_now : ServiceTold) → told self.now ≡ Some told_now
             → IfOk result (λ view. told_by view ≡ told_now) }

@@ -1,13 +1,13 @@
-//! Halls: the state of a service that all its connections share. In a hall are the roll of the connections that a commit
-//! has to hang up, and the table of questions to agents.
+//! Halls: the state of a service that all its connections share. In a hall are the roll of the connections that a
+//! commit has to hang up, and the table of questions to agents.
 //!
 //! A connection makes its calls on a hall, whatever stands behind it: two locks in a service that runs, or a list of
-//! answers in a test. Every hall counts its calls and keeps the last ones, so that a promise of a connection can speak of
-//! the calls that it made. What a call does to a roll and a table is said where it is lent them.
+//! answers in a test. Every hall counts its calls and keeps the last ones, so that a promise of a connection can speak
+//! of the calls that it made. What a call does to a roll and a table is said where it is lent them.
 //!
-//! Of the locks each call takes one and makes one proved call on what stands under it, or does so again each time that there is
-//! news. `service` alone takes both, the table's first, so that it tells of one moment. What another thread made of the roll and
-//! the table meanwhile no clause says.
+//! Of the locks each call takes one and makes one proved call on what stands under it, or does so again each time that
+//! there is news. `service` alone takes both, the table's first, so that it tells of one moment. What another thread
+//! made of the roll and the table meanwhile no clause says.
 #![tactic(auto)]
 
 mod calls;

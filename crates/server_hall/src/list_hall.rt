@@ -6,7 +6,8 @@ ghost use Rattle.live_desk.specs.Seat.{with_note};
 ghost use Rattle.server_hall.specs.Tally.{after_enter, after_leave, IsRaised, after_hang, after_ask, after_join};
 ghost use Rattle.server_hall.specs.Tally.{after_next, after_answer, after_part, after_stop, IsNamedForItself};
 ghost use Rattle.server_hall.specs.Told.{AppendsCalls};
-ghost use Rattle.server_hall.specs.Found.{marks_after_ask, CountsAsk, IsOfTheTable, marks_after_next, CountsNext, IsOfTheQueue};
+ghost use Rattle.server_hall.specs.Found.{marks_after_ask, CountsAsk, IsOfTheTable};
+ghost use Rattle.server_hall.specs.Found.{marks_after_next, CountsNext, IsOfTheQueue};
 ghost use Rattle.server_hall.specs.ListHall.{IsNewHall};
 ghost use Rattle.agent_table.specs.Table.{KindsRise};
 ghost use Rattle.server_hall.specs.Service.{told_by, service_of};
@@ -27,11 +28,12 @@ use std::alloc::{AllocError, Global};
 use std::marker::Model;
 use std::snapshot::Snapshot;
 
-/// A hall in memory, for tests: a roll, and a list of answers to `ask`, `join`, `next`, `answer` and `is_open`, of which each
-/// of these calls takes the next one. Where that is an answer to another call, or none is left, the list counts as used up
-/// from then on: such a call counts a stop and answers `Stopped`, `answer` refuses, and no question is open. It tells its
-/// calls until then. `ask` and `next` look first, once, whether the link is up. Where it is not they take no answer, and
-/// refuse `Withdrawn` of number 0 and `Left`. `service` tells of the roll and of a table that no other call touches.
+/// A hall in memory, for tests: a roll, and a list of answers to `ask`, `join`, `next`, `answer` and `is_open`, of
+/// which each of these calls takes the next one. Where that is an answer to another call, or none is left, the list
+/// counts as used up from then on: such a call counts a stop and answers `Stopped`, `answer` refuses, and no question
+/// is open. It tells its calls until then. `ask` and `next` look first, once, whether the link is up. Where it is not
+/// they take no answer, and refuse `Withdrawn` of number 0 and `Left`. `service` tells of the roll and of a table that
+/// no other call touches.
 #[derive(Drop)]
 pub struct ListHall<H: HangEnd> {
     // The next one is the last.
@@ -60,8 +62,8 @@ impl<H: HangEnd> Model for ListHall<H> {
 
 impl<H: HangEnd> ListHall<H> {
     /// A hall with this roll, a table with no agent, and these answers in turn. Takes room for as many calls. An answer
-    /// `Put` of the table's `Stopped` stands for `Stopped`, and so do `Withdrawn` and `Left`, which no link gets that is
-    /// up.
+    /// `Put` of the table's `Stopped` stands for `Stopped`, and so do `Withdrawn` and `Left`, which no link gets that
+    /// is up.
     pub fn new(
         alloc: Global,
         answers: Vec<HallAnswer>,
@@ -318,7 +320,8 @@ impl<H: HangEnd> Hall for ListHall<H> {
 
     fn leave(&mut self, seat: u32, entered: u64) -> Left
         requires { seat < 64 }
-        ensures tally { self.new.tally ≡ after_leave (record { seat = seat; entered = entered; left = result }) self.old.tally }
+        ensures tally { self.new.tally
+            ≡ after_leave (record { seat = seat; entered = entered; left = result }) self.old.tally }
         ensures calls { self.new.calls ≡ self.old.calls }
         ensures raised { IsRaised entered result }
 

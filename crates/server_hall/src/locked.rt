@@ -38,8 +38,8 @@ impl QuestionDesk {
     }
 }
 
-/// The hall over a locked roll and a locked table. It keeps the runtime, and counts the calls that are made by way of it. It
-/// tells no list of its calls.
+/// The hall over a locked roll and a locked table. It keeps the runtime, and counts the calls that are made by way of
+/// it. It tells no list of its calls.
 #[derive(Drop)]
 pub struct Locked<'a, R: Wait + Clock + Drop, H: HangEnd> {
     rt: R,

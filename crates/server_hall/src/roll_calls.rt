@@ -1,5 +1,5 @@
-// What the calls of a hall make of the roll that they are lent. What a hall may count and note of them these functions alone make:
-// no other module can.
+// What the calls of a hall make of the roll that they are lent. What a hall may count and note of them these functions
+// alone make: no other module can.
 ghost use Rattle.std.specs.Prelude.{◌≡◌, ◌<◌, false, IsTrue, IfOk, IfErr, OnOk, OnErr};
 ghost use Rattle.live_roll.specs.Roll.{left_of, with_entry, LeavesPlace, HangsTo};
 ghost use Rattle.live_desk.specs.History.{last_commit};
@@ -11,8 +11,8 @@ use live_desk::{Naming, Publisher, Seat};
 use live_roll::{Left, Roll, Stopped};
 use std::marker::Model;
 
-/// A connection came to enter, and entered at this commit, or was refused. Only `enter_roll` makes one: so a hall that counts one
-/// has asked a roll.
+/// A connection came to enter, and entered at this commit, or was refused. Only `enter_roll` makes one: so a hall that
+/// counts one has asked a roll.
 #[derive(Drop)]
 pub struct EnterCall {
     outcome: Result<u64, Stopped>,
@@ -39,8 +39,8 @@ impl EnterCall {
     }
 }
 
-/// A connection left the place of this seat, which had entered at this commit, and this was answered. Only `leave_roll` makes
-/// one: so a hall that counts one has left a roll.
+/// A connection left the place of this seat, which had entered at this commit, and this was answered. Only `leave_roll`
+/// makes one: so a hall that counts one has left a roll.
 #[derive(Drop)]
 pub struct LeaveCall {
     seat: u32,
@@ -65,8 +65,8 @@ impl LeaveCall {
     }
 }
 
-/// All connections of a roll were hung up that had entered before this commit. Only `hang_roll` makes one: so a hall that notes
-/// one has hung up a roll.
+/// All connections of a roll were hung up that had entered before this commit. Only `hang_roll` makes one: so a hall
+/// that notes one has hung up a roll.
 #[derive(Drop)]
 pub struct HangCall {
     commit: u64,
@@ -89,7 +89,8 @@ impl HangCall {
     }
 }
 
-/// A connection enters, as `Roll::enter` says, or is refused, and its end is dropped. The call is handed out, for a hall to count.
+/// A connection enters, as `Roll::enter` says, or is refused, and its end is dropped. The call is handed out, for a
+/// hall to count.
 pub fn enter_roll<H: HangEnd, J: Naming>(
     roll: &mut Roll<H>,
     end: H,
@@ -130,8 +131,8 @@ pub fn leave_roll<H: HangEnd>(roll: &mut Roll<H>, seat: u32, entered: u64) -> Le
     }
 }
 
-/// All connections that entered before the last commit of the publisher are hung up, as `Roll::hang_all` says. The call is
-/// handed out, for a hall to note.
+/// All connections that entered before the last commit of the publisher are hung up, as `Roll::hang_all` says. The call
+/// is handed out, for a hall to note.
 pub fn hang_roll<H: HangEnd, J: Naming>(roll: &mut Roll<H>, publisher: &Publisher<J>) -> HangCall
     ensures commit { result ≡ last_commit 0 publisher.now }
     ensures hung { HangsTo H.used (last_commit 0 publisher.now) roll.old roll.new }

@@ -5,8 +5,8 @@ use crate::locked::QuestionDesk;
 use std::marker::Model;
 use std::sync::Wait;
 
-/// What a worker was told of the stop of its service: how often it asked whether the service is stopped, and how often it was
-/// told that it is. A count stands still at its last value. No call of it takes memory.
+/// What a worker was told of the stop of its service: how often it asked whether the service is stopped, and how often
+/// it was told that it is. A count stands still at its last value. No call of it takes memory.
 #[derive(Drop)]
 pub struct StopNews {
     asks: u64,

@@ -6,7 +6,8 @@ ghost use Rattle.agent_table.specs.Table.{after_put, taken_away};
 ghost use Rattle.agent_table.specs.Refusals.{put_fault, take_reply, after_take};
 ghost use Rattle.server_hall.specs.Tally.{IsNamedForItself};
 ghost use Rattle.server_hall.specs.Found.{IsOfTheTable, IsOfTheQueue};
-ghost use Rattle.server_hall.specs.Table.{RefusesAsk, awaited, IsGone, IsNamed, GivesNext, RefusesNext, table_after_next};
+ghost use Rattle.server_hall.specs.Table.{RefusesAsk, awaited, IsGone, IsNamed};
+ghost use Rattle.server_hall.specs.Table.{GivesNext, RefusesNext, table_after_next};
 
 use crate::{AskRefusal, NextRefusal};
 use agent_table::{Asked, PutRefusal, Questions, TakeRefusal, Taken};

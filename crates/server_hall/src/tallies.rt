@@ -13,8 +13,8 @@ use live_roll::Left;
 use std::marker::Model;
 use std::snapshot::Snapshot;
 
-/// What a hall counts of itself, and the last call of each kind. Each form of a hall keeps one. A count stands still at its
-/// last value. No call of it takes memory.
+/// What a hall counts of itself, and the last call of each kind. Each form of a hall keeps one. A count stands still at
+/// its last value. No call of it takes memory.
 #[derive(Drop)]
 pub struct HallTally {
     stops: u64,

@@ -12,8 +12,8 @@ use live_roll::Roll;
 use std::alloc::{AllocError, Global};
 use std::sync::{Mutex, MutexGuard, Wait};
 
-/// What a service tells of itself: the kinds that have an agent, rising, each once; how many workers serve clients; and how
-/// many of them serve one now.
+/// What a service tells of itself: the kinds that have an agent, rising, each once; how many workers serve clients; and
+/// how many of them serve one now.
 #[derive(Debug, Drop)]
 pub struct ServiceView {
     pub kinds: Vec<Kind>,
@@ -40,8 +40,8 @@ pub fn view_of<H: HangEnd>(
     })
 }
 
-/// What there is to tell of a table and a roll under their locks, which are handed out still held: so it is said of one moment.
-/// The table's lock is taken first. May wait for both.
+/// What there is to tell of a table and a roll under their locks, which are handed out still held: so it is said of one
+/// moment. The table's lock is taken first. May wait for both.
 pub(crate) fn view_under<'a, R: Wait, H: HangEnd>(
     rt: &R,
     alloc: Global,

@@ -1,5 +1,5 @@
-// The calls of the hall over locks that wait: for the answer of an agent, and for a question to one. While such a call waits it
-// looks each tenth of a second whether the link is up of whoever made it.
+// The calls of the hall over locks that wait: for the answer of an agent, and for a question to one. While such a call
+// waits it looks each tenth of a second whether the link is up of whoever made it.
 ghost use Rattle.std.specs.Prelude.{◌≡◌, None, IsTrue, IfErr};
 ghost use Rattle.std.specs.Sync.Mutex.{mutex_guard_value};
 ghost use Rattle.cynara_keys.specs.PolicyResult.{is_agent};
@@ -20,8 +20,8 @@ use std::time::{Clock, Duration};
 /// How long a call waits before it looks at the link, in milliseconds.
 const TICK: u64 = 100;
 
-/// Puts a question, and waits for its answer. It has no limit of time of its own: the agent's connection ends where the agent
-/// does not answer in time.
+/// Puts a question, and waits for its answer. It has no limit of time of its own: the agent's connection ends where the
+/// agent does not answer in time.
 pub(crate) fn ask_at<R: Wait + Clock, L: Link>(
     rt: &R,
     questions: &QuestionDesk,
@@ -47,8 +47,8 @@ pub(crate) fn ask_at<R: Wait + Clock, L: Link>(
     outcome
 }
 
-// Waits for the answer to the question of the number, as long as the asker's link is up. At the end, under the lock, the table
-// has the question no more.
+// Waits for the answer to the question of the number, as long as the asker's link is up. At the end, under the lock,
+// the table has the question no more.
 #[tactic(auto, using(crate::proofs::Marks::marks_up, crate::proofs::Marks::marks_down))]
 fn wait_for_answer<'a, R: Wait + Clock, L: Link>(
     rt: &R,

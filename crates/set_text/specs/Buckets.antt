@@ -1,5 +1,6 @@
 -- The file `buckets`, which has a line for each bucket, and the file of each bucket, which has a line for each policy.
-use Rattle.std.specs.Prelude.{ℕ, ◌+◌, Bool, not, ◌&&◌, ◌||◌, ◌==◌, nat_lt, if◌then◌else◌, List, [], ◌∷◌, length, Option, Some, None, is_none, Result}
+use Rattle.std.specs.Prelude.{ℕ, ◌+◌, Bool, not, ◌&&◌, ◌||◌, ◌==◌, nat_lt, if◌then◌else◌}
+use Rattle.std.specs.Prelude.{List, [], ◌∷◌, length, Option, Some, None, is_none, Result}
 use Rattle.std.specs.Option.{option_map}
 use Rattle.std.specs.List.{list_any}
 use Rattle.cynara_keys.specs.Text.{same_text}
@@ -50,7 +51,8 @@ ruling_of kind metadata = ruling_with metadata (kind_of kind)
 
 abbrev pub heading_of_fields : List (List ℕ) → Option Heading
 heading_of_fields (name ∷ kind ∷ metadata ∷ []) =
-    if is_bucket_name name then option_map (λ fallback. record { name = name; fallback = fallback }) (ruling_of kind metadata)
+    if is_bucket_name name then option_map (λ fallback. record { name = name; fallback = fallback })
+    (ruling_of kind metadata)
     else None
 heading_of_fields _ = None
 
@@ -88,7 +90,8 @@ policy_of line = policy_of_fields (fields_of line)
 abbrev pub is_root_or_later : List Heading → Heading → Bool
 is_root_or_later before heading = not (length before == 0) || length heading.name == 0
 
--- The names rise from the root's; a fallback is not BUCKET, nor NONE for the root; there are no more buckets than there may be.
+-- The names rise from the root's; a fallback is not BUCKET, nor NONE for the root; there are no more buckets than there
+-- may be.
 abbrev pub heading_fits : List Heading → Heading → Bool
 heading_fits before heading =
     rises_above heading_cmp before heading
@@ -102,13 +105,15 @@ headings_of text = at_least_one (values_of read_heading text)
 
 -- a policy that points to a bucket points to one of these
 abbrev pub has_target : List Heading → Policy → Bool
-has_target headings policy = not (points policy) || list_any (λ heading. same_text heading.name (target policy)) headings
+has_target headings policy =
+    not (points policy) || list_any (λ heading. same_text heading.name (target policy)) headings
 
--- The keys rise; the bucket that a policy points to is there; with those of the files before, there are no more policies
--- than there may be.
+-- The keys rise; the bucket that a policy points to is there; with those of the files before, there are no more
+-- policies than there may be.
 abbrev pub policy_fits : List Heading → ℕ → List Policy → Policy → Bool
 policy_fits headings earlier before policy =
-    rises_above policy_cmp before policy && (has_target headings policy && nat_lt (earlier + length before) most_policies)
+    rises_above policy_cmp before policy
+    && (has_target headings policy && nat_lt (earlier + length before) most_policies)
 
 abbrev pub read_policy : List Heading → ℕ → List Policy → List ℕ → Option Policy
 read_policy headings earlier before line = kept (policy_fits headings earlier before) (policy_of line)

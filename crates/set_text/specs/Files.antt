@@ -20,7 +20,8 @@ file name bytes = record { name = name; bytes = bytes }
 
 -- the policies in a bucket of a database
 abbrev pub policies_in : Database → List ℕ → List Policy
-policies_in database name = map (λ placed. placed.policy) (filter (λ placed. same_text placed.bucket name) database.policies)
+policies_in database name =
+    map (λ placed. placed.policy) (filter (λ placed. same_text placed.bucket name) database.policies)
 
 -- the file of a bucket with its policies
 abbrev pub file_of : Bucket → SetFile

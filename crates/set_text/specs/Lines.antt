@@ -1,5 +1,6 @@
 -- The text of a file: a line for each of its values, in their order, each with a newline behind it.
-use Rattle.std.specs.Prelude.{ℕ, Bool, true, ◌+◌, ◌-◌, ◌==◌, if◌then◌else◌, List, [], ◌∷◌, ◌++◌, length, map, slice_get, Option, Some, None, Result, Ok, Err}
+use Rattle.std.specs.Prelude.{ℕ, Bool, true, ◌+◌, ◌-◌, ◌==◌, if◌then◌else◌, List, [], ◌∷◌}
+use Rattle.std.specs.Prelude.{◌++◌, length, map, slice_get, Option, Some, None, Result, Ok, Err}
 use Rattle.std.specs.declared.cmp.Ordering.{Ordering}
 use Rattle.std.specs.Ordering.{is_lt}
 use Rattle.std.specs.Option.{option_map, option_and_then}
@@ -35,7 +36,8 @@ abbrev pub whole_lines : List ℕ → List (Option (List ℕ))
 whole_lines text = map whole_line (pieces_of text)
 
 -- What the lines give, each read in the light of the values before it, or the number of the first wrong line, from 1.
-abbrev pub values_behind : {X : Type 0} → (List X → List ℕ → Option X) → List X → List (Option (List ℕ)) → Result (List X) ℕ
+abbrev pub values_behind : {X : Type 0} → (List X → List ℕ → Option X) → List X → List (Option (List ℕ))
+    → Result (List X) ℕ
 values_behind read before [] = Ok before
 values_behind read before (line ∷ lines) =
     elim (option_and_then (read before) line) [

@@ -1,5 +1,6 @@
 -- Numbers as text. Each has one spelling, and only that one is read.
-use Rattle.std.specs.Prelude.{ℕ, ◌&&◌, false, nat_le, if◌then◌else◌, List, ◌++◌, drop, codes, decimal, Option, Some, None}
+use Rattle.std.specs.Prelude.{ℕ, ◌&&◌, false, nat_le, if◌then◌else◌, List, ◌++◌}
+use Rattle.std.specs.Prelude.{drop, codes, decimal, Option, Some, None}
 use Rattle.std.specs.Fmt.{digits}
 use Rattle.std.specs.Str.Parse.{digits_value}
 use Rattle.cynara_keys.specs.Text.{same_text}

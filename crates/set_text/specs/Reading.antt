@@ -1,5 +1,6 @@
 -- Reading a set of files: the policy state that has these files, or the first fault.
-use Rattle.std.specs.Prelude.{ℕ, Bool, not, ◌&&◌, ◌||◌, ◌==◌, if◌then◌else◌, List, [], ◌∷◌, ◌++◌, length, map, filter, Option, Some, None, is_some, Result, Ok, Err}
+use Rattle.std.specs.Prelude.{ℕ, Bool, not, ◌&&◌, ◌||◌, ◌==◌, if◌then◌else◌, List, [], ◌∷◌, ◌++◌}
+use Rattle.std.specs.Prelude.{length, map, filter, Option, Some, None, is_some, Result, Ok, Err}
 use Rattle.std.specs.Option.{option_map, option_or}
 use Rattle.std.specs.List.{list_any, list_all, sum_by}
 use Rattle.cynara_keys.specs.PolicyResult.{deny}
@@ -59,7 +60,8 @@ is_bare desk =
 -- a bucket reaches itself, or the layout is neither there nor away
 abbrev pub layout_fault : DeskState → Option Fault
 layout_fault desk =
-    if is_some (cycle desk.database) || not (is_laid_out desk.database || is_bare desk) then Some (whole name.buckets) else None
+    if is_some (cycle desk.database) || not (is_laid_out desk.database || is_bare desk) then Some (whole name.buckets)
+    else None
 
 -- with the layout, one of its two files that the registry decides has another text, `_MAIN` before `_MANIFESTS`
 abbrev pub managed_fault : List SetFile → DeskState → Option Fault
@@ -72,7 +74,8 @@ managed_fault set desk =
 -- one of these two does not deny where no policy decides
 abbrev pub fallback_fault : DeskState → Option Fault
 fallback_fault desk =
-    if list_any (λ (heading : Heading). is_managed heading.name && not (heading.fallback.kind == deny)) desk.database.buckets
+    if list_any (λ (heading : Heading).
+    is_managed heading.name && not (heading.fallback.kind == deny)) desk.database.buckets
     then Some (whole name.buckets) else None
 
 -- a load file is not the rules of its package

@@ -1,5 +1,6 @@
 -- The file `users`, which has a line for each user, and the file `apps`, which has a line for each install.
-use Rattle.std.specs.Prelude.{ℕ, Bool, true, false, ◌==◌, ◌&&◌, nat_lt, if◌then◌else◌, List, [], ◌∷◌, ◌++◌, length, codes, decimal, find, Option, Some, None, is_none, Result}
+use Rattle.std.specs.Prelude.{ℕ, Bool, true, false, ◌==◌, ◌&&◌, nat_lt, if◌then◌else◌, List, [], ◌∷◌}
+use Rattle.std.specs.Prelude.{◌++◌, length, codes, decimal, find, Option, Some, None, is_none, Result}
 use Rattle.std.specs.Option.{option_map}
 use Rattle.std.specs.List.{list_all}
 use Rattle.std.specs.Ordering.{is_lt}
@@ -54,7 +55,8 @@ scope_text (One uid) = decimal uid
 
 abbrev pub install_line : Install → List ℕ
 install_line install =
-    joined (package_text install.hybrid install.package ∷ author_text install.author ∷ install.app ∷ scope_text install.scope ∷ install.privileges)
+    joined (package_text install.hybrid install.package ∷ author_text install.author ∷ install.app
+    ∷ scope_text install.scope ∷ install.privileges)
 
 abbrev pub apps_text : List Install → List ℕ
 apps_text installs = text_of install_line installs
@@ -102,7 +104,8 @@ name_in (byte ∷ bytes) = if byte == 43 then bytes else byte ∷ bytes
 
 -- `*`, or the number of a user
 abbrev pub scope_of : List ℕ → Option Scope
-scope_of text = if same_text text wildcard then Some Everyone else option_map (λ uid. One uid) (decimal_of last_uid text)
+scope_of text = if same_text text wildcard then Some Everyone
+    else option_map (λ uid. One uid) (decimal_of last_uid text)
 
 -- each before the next
 abbrev pub are_rising : List (List ℕ) → Bool

@@ -50,7 +50,8 @@ fn append_install(install: &Install, text: &mut Vec<u8>) -> Result<(), AllocErro
 
 // Appends the package with its kind, the author and the application, with a semicolon behind each.
 fn append_names(install: &Install, text: &mut Vec<u8>) -> Result<(), AllocError>
-    ensures text { OnOk result (text.new.items ≡ text.old.items ++ (word.package_text install.now.hybrid install.now.package
+    ensures text { OnOk result
+        (text.new.items ≡ text.old.items ++ (word.package_text install.now.hybrid install.now.package
         ++ (59 ∷ (word.author_text install.now.author ++ (59 ∷ (install.now.app ++ 59 ∷ [])))))) }
     ensures package_spelt { OnOk result (IsTrue (word.is_ident install.now.package)) }
     ensures author_spelt { OnOk result (IsAuthor install.now.author) }

@@ -9,7 +9,8 @@ ghost use Rattle.app_registry.specs.Rules.{IsRegistry};
 ghost use Rattle.set_text.specs.Lines.{rises_above, last_of};
 ghost use Rattle.set_text.specs.Registry as word;
 ghost use Rattle.set_text.specs.parts.Reads.{RefusesFile};
-ghost use Rattle.set_text.specs.parts.Standing.{HasPackages, author_fits, kind_fits, counts_of, new_package, counts_limit};
+ghost use Rattle.set_text.specs.parts.Standing.{HasPackages, author_fits, kind_fits};
+ghost use Rattle.set_text.specs.parts.Standing.{counts_of, new_package, counts_limit};
 
 use crate::app_packages::{is_elsewhere, note};
 use crate::installs::install_of;

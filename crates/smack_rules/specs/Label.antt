@@ -1,5 +1,7 @@
--- Labels, from the Linux kernel's Documentation/admin-guide/LSM/Smack; the refusal of `@` and `?` is this project's profile.
-use Rattle.std.specs.Prelude.{ℕ, Bool, false, ◌&&◌, ◌||◌, not, ◌==◌, nat_lt, nat_le, List, [], ◌∷◌, length, Option, Some, None, position, if◌then◌else◌}
+-- Labels, from the Linux kernel's Documentation/admin-guide/LSM/Smack; the refusal of `@` and `?` is this project's
+-- profile.
+use Rattle.std.specs.Prelude.{ℕ, Bool, false, ◌&&◌, ◌||◌, not, ◌==◌, nat_lt, nat_le}
+use Rattle.std.specs.Prelude.{List, [], ◌∷◌, length, Option, Some, None, position, if◌then◌else◌}
 use Rattle.std.specs.Str.{bytes_eq}
 use Rattle.smack_rules.specs.Limits.{most_label_bytes}
 use Rattle.smack_rules.specs.declared.label.LabelRefusal.{LabelRefusal}

@@ -1,5 +1,7 @@
--- Sets of access modes, from the Linux kernel's Documentation/admin-guide/LSM/Smack; the letter `l` is this project's profile.
-use Rattle.std.specs.Prelude.{ℕ, Bool, true, false, not, ◌&&◌, ◌||◌, ◌==◌, nat_le, List, [], ◌∷◌, ◌++◌, length, Option, Some, None, if◌then◌else◌}
+-- Sets of access modes, from the Linux kernel's Documentation/admin-guide/LSM/Smack; the letter `l` is this project's
+-- profile.
+use Rattle.std.specs.Prelude.{ℕ, Bool, true, false, not, ◌&&◌, ◌||◌, ◌==◌, nat_le}
+use Rattle.std.specs.Prelude.{List, [], ◌∷◌, ◌++◌, length, Option, Some, None, if◌then◌else◌}
 use Rattle.std.specs.List.{list_any, list_all}
 use Rattle.std.specs.Char.{to_ascii_lowercase}
 use Rattle.smack_rules.specs.declared.modes.Modes.{Modes}
@@ -58,7 +60,8 @@ is_within a b = is_empty (without a b)
 -- whether the set has the letter, which is a small one
 abbrev pub has : Modes → ℕ → Bool
 has m letter =
-    (m.read && letter == 114) || (m.write && letter == 119) || (m.execute && letter == 120) || (m.append && letter == 97)
+    (m.read && letter == 114) || (m.write && letter == 119) || (m.execute && letter == 120)
+    || (m.append && letter == 97)
     || (m.transmute && letter == 116) || (m.lock && letter == 108) || (m.bring_up && letter == 98)
 
 -- what may be asked: a set with a letter, and without `b`, which only marks rules that are being tried out

@@ -1,5 +1,6 @@
 -- Rules and their lines, from the Linux kernel's Documentation/admin-guide/LSM/Smack.
-use Rattle.std.specs.Prelude.{◌≡◌, ℕ, Bool, ◌&&◌, List, [], ◌∷◌, Option, Some, None, IsSome, is_none, Result, Ok, Err, IsOkAnd, if◌then◌else◌}
+use Rattle.std.specs.Prelude.{◌≡◌, ℕ, Bool, ◌&&◌, List, [], ◌∷◌, Option, Some}
+use Rattle.std.specs.Prelude.{None, IsSome, is_none, Result, Ok, Err, IsOkAnd, if◌then◌else◌}
 use Rattle.std.specs.Str.{bytes_eq}
 use Rattle.smack_rules.specs.declared.modes.Modes.{Modes}
 use Rattle.smack_rules.specs.declared.rule.Rule.{Rule}

@@ -1,5 +1,6 @@
 -- Rule texts: a rule a line.
-use Rattle.std.specs.Prelude.{◌≡◌, ℕ, ◌+◌, Bool, List, [], ◌∷◌, ◌++◌, Option, None, IsSomeAnd, Result, Ok, Err, IsOk, IsOkAnd, position}
+use Rattle.std.specs.Prelude.{◌≡◌, ℕ, ◌+◌, Bool, List, [], ◌∷◌, ◌++◌, Option}
+use Rattle.std.specs.Prelude.{None, IsSomeAnd, Result, Ok, Err, IsOk, IsOkAnd, position}
 use Rattle.std.specs.Result.{is_err}
 use Rattle.std.specs.Option.{option_to_list}
 use Rattle.text_lines.specs.Lines.{lines_of}

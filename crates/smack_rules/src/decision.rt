@@ -26,13 +26,15 @@ pub struct Decision {
     pub rule: u8,
 }
 
-/// Decides a request of a subject on an object: takes what is asked, which has a mode and no `b`, and what the rules grant
-/// the pair. Gives whether it is allowed, and the case that decided, numbered in the order of the kernel's Smack document.
+/// Decides a request of a subject on an object: takes what is asked, which has a mode and no `b`, and what the rules
+/// grant the pair. Gives whether it is allowed, and the case that decided, numbered in the order of the kernel's Smack
+/// document.
 pub fn decide(subject: &Label, object: &Label, asked: Modes, granted: Modes) -> Decision
     requires { IsTrue (is_request asked) }
     ensures decided { result ≡ decision subject.now object.now asked granted }
     // A `b` in what is granted never changes a decision.
-    ensures bring_up { (tried : Bool) → result ≡ decision subject.now object.now asked (record granted { bring_up = tried }) }
+    ensures bring_up { (tried : Bool)
+        → result ≡ decision subject.now object.now asked (record granted { bring_up = tried }) }
 {
     first_case(subject, object, asked, granted)
 }

@@ -117,7 +117,8 @@ fn is_pair(rule_subject: &[u8], rule_object: &[u8], subject: &[u8], object: &[u8
 
 /// Reads the words behind the labels: one mode word, or two.
 fn read_modes(words: &[u8]) -> Result<(Modes, Option<Modes>), LineRefusal>
-    ensures { (subject object : List ℕ) → rule_with subject object result ≡ rule_behind subject object (words_of words.now) }
+    ensures { (subject object : List ℕ)
+        → rule_with subject object result ≡ rule_behind subject object (words_of words.now) }
 {
     let (first, rest) = split_word(words).ok_or(LineRefusal::Form)?;
     let modes = Modes::read(first).ok_or(LineRefusal::Form)?;

@@ -15,7 +15,8 @@ use text_lines::split_line;
 /// over the text, which takes no memory. Refused is the first line that is no rule, by its number from 1.
 pub fn modes_in_text(text: &[u8], subject: &Label, object: &Label) -> Result<Modes, u32>
     requires { length text.now ≤ most_text_bytes }
-    ensures modes { IfOk result (λ modes. IsOkAnd (rules_of text.now) (λ rules. modes ≡ effective rules subject.now object.now)) }
+    ensures modes { IfOk result
+        (λ modes. IsOkAnd (rules_of text.now) (λ rules. modes ≡ effective rules subject.now object.now)) }
     ensures refused { IfErr result (λ number. rules_of text.now ≡ Err number) }
 {
     let subject = subject.as_slice();

@@ -1,6 +1,7 @@
 //! Tables of rules.
 
-ghost use Rattle.std.specs.Prelude.{◌≡◌, ◌+◌, ◌++◌, ◌^◌, ◌<◌, Option, List, ℕ, length, map, IfOk, IfErr, OnOk, IsOkAnd, Result};
+ghost use Rattle.std.specs.Prelude.{◌≡◌, ◌+◌, ◌++◌, ◌^◌, ◌<◌, Option, List, ℕ};
+ghost use Rattle.std.specs.Prelude.{length, map, IfOk, IfErr, OnOk, IsOkAnd, Result};
 ghost use Rattle.std.specs.Option.{option_to_list};
 ghost use Rattle.std.specs.List.Sorted.{IsStrictlySortedBy};
 ghost use Rattle.text_lines.specs.Lines.{lines_of};
@@ -85,8 +86,8 @@ impl RuleTable {
         table_of(alloc, changes)
     }
 
-    /// The table of this table's rules and further rules behind them, the oldest first; this one stays. With n pairs and m
-    /// rules it takes some n + m times log (n + m) comparisons. Fails only for lack of memory.
+    /// The table of this table's rules and further rules behind them, the oldest first; this one stays. With n pairs
+    /// and m rules it takes some n + m times log (n + m) comparisons. Fails only for lack of memory.
     pub fn with(&self, rules: &[Rule]) -> Result<RuleTable, AllocError>
         ensures from { IfOk result (λ table. GrantsFrom self.now table rules.now) }
         ensures behind { IfOk result (λ table. GrantsBehind self.now table rules.now) }
@@ -121,8 +122,8 @@ impl RuleTable {
         }
     }
 
-    /// Decides a request, which has a mode and no `b`, in the order of the kernel's Smack document. Takes no memory, and
-    /// in a table of n pairs some log n comparisons.
+    /// Decides a request, which has a mode and no `b`, in the order of the kernel's Smack document. Takes no memory,
+    /// and in a table of n pairs some log n comparisons.
     pub fn decide(&self, subject: &Label, object: &Label, asked: Modes) -> Decision
         requires { IsTrue (is_request asked) }
         ensures decided { result ≡ decision subject.now object.now asked (granted self.now subject.now object.now) }
@@ -137,7 +138,8 @@ impl RuleTable {
 
 /// Gives each pair the modes that a table has for it.
 fn follow_pairs<'a>(changes: &mut Changes<'a>, pairs: &'a [PairModes]) -> Result<(), AllocError>
-    ensures { OnOk result (ChangeAlike changes.new.changes.items (changes.old.changes.items ++ map pair_change pairs.now)) }
+    ensures { OnOk result
+        (ChangeAlike changes.new.changes.items (changes.old.changes.items ++ map pair_change pairs.now)) }
 {
     for pair in pairs {
         changes.follow(PairChange {
@@ -160,7 +162,8 @@ fn follow_rules<'a>(changes: &mut Changes<'a>, rules: &'a [Rule]) -> Result<(), 
 
 /// The table of changes.
 fn table_of(alloc: Global, changes: Changes) -> Result<RuleTable, AllocError>
-    ensures { IfOk result (λ table. (s o : List ℕ) → granted table s o ≡ modes_after changes.entry.changes.items s o no_access) }
+    ensures { IfOk result
+        (λ table. (s o : List ℕ) → granted table s o ≡ modes_after changes.entry.changes.items s o no_access) }
 {
     let joined = changes.into_joined()?;
     let pairs = pairs_of(alloc, joined.as_slice())?;
@@ -205,8 +208,8 @@ fn follow_line<'a>(
     }
 }
 
-/// The refusal of a text for whose lines up to this number there was not memory enough: the first of the lines after them
-/// that is no rule, and else the lack of memory.
+/// The refusal of a text for whose lines up to this number there was not memory enough: the first of the lines after
+/// them that is no rule, and else the lack of memory.
 fn refusal_before(lines: &[u8], read: u32, error: AllocError) -> LoadRefusal
     requires { read + length lines.now < 2 ^ 32 }
     ensures { RefusesText result (rules_from (read + 1) (lines_of lines.now)) }

@@ -1,5 +1,6 @@
 -- How a text is read from a source line by line.
-use Rattle.std.specs.Prelude.{◌≡◌, ◌<◌, ◌≤◌, ◌+◌, ◌⊎◌, ℕ, Bool, true, false, ◌||◌, List, [], ◌∷◌, ◌++◌, length, Option, Result, Ok, Err}
+use Rattle.std.specs.Prelude.{◌≡◌, ◌<◌, ◌≤◌, ◌+◌, ◌⊎◌, ℕ, Bool, true, false, ◌||◌}
+use Rattle.std.specs.Prelude.{List, [], ◌∷◌, ◌++◌, length, Option, Result, Ok, Err}
 use Rattle.std.specs.List.{list_any}
 use Rattle.desk_ports.specs.Faults.{next_count}
 use Rattle.desk_ports.specs.Content.{Took, ReadToEnd}
@@ -29,8 +30,8 @@ has_line reading = list_any is_newline reading.waiting
 abbrev pub needs_no_reading : LineReading → Bool
 needs_no_reading reading = has_line reading || reading.is_ended
 
--- What waited is a line with its newline, and then what waits now. A last line may lack its newline; then the source is at
--- its end, and nothing waits.
+-- What waited is a line with its newline, and then what waits now. A last line may lack its newline; then the source is
+-- at its end, and nothing waits.
 pub record IsHandedOut (old new : LineReading) : Type 0 where
   pub piece : List ℕ
   pub cut : old.waiting ≡ piece ++ new.waiting
@@ -84,7 +85,8 @@ pub record IsUnfinished (reading : LineReading) : Type 0 where
   pub within : length reading.waiting ≤ reading.room
 
 -- how the next line is handed out, or not
-abbrev pub HandsOutNext : Option (List ℕ) → Option (List ℕ) → LineReading → LineReading → Result Bool ReadRefusal → Type 0
+abbrev pub HandsOutNext : Option (List ℕ) → Option (List ℕ) → LineReading → LineReading → Result Bool ReadRefusal
+    → Type 0
 HandsOutNext left left_after old new (Ok true) = HandsOut left left_after old new
 HandsOutNext left left_after old new (Ok false) = Ends left left_after old new
 HandsOutNext left left_after old new (Err (PastLimit number)) =

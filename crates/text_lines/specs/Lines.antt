@@ -1,5 +1,6 @@
 -- Texts as lists of lines.
-use Rattle.std.specs.Prelude.{◌≡◌, ◌≢◌, ◌-◌, nat_lt, ℕ, Bool, false, List, [], ◌∷◌, ◌++◌, length, map, if◌then◌else◌, ◌==◌, ◌⊎◌, Option, Some, None}
+use Rattle.std.specs.Prelude.{◌≡◌, ◌≢◌, ◌-◌, nat_lt, ℕ, Bool, false, List, [], ◌∷◌}
+use Rattle.std.specs.Prelude.{◌++◌, length, map, if◌then◌else◌, ◌==◌, ◌⊎◌, Option, Some, None}
 use Rattle.std.specs.List.{AllByRecursion, onto_first}
 use Rattle.text_lines.specs.declared.TheConstants.{NEWLINE}
 
@@ -24,7 +25,8 @@ line_of (byte ∷ bytes) = if is_newline byte then [] else byte ∷ line_of byte
 abbrev pub lines_of : List ℕ → List (List ℕ)
 lines_of text = map line_of (pieces_of text)
 
--- The text is this line, and behind it a newline and these bytes. The last line may lack its newline, with no bytes behind.
+-- The text is this line, and behind it a newline and these bytes. The last line may lack its newline, with no bytes
+-- behind.
 abbrev pub IsFirstLine : List ℕ → List ℕ → List ℕ → Type 0
 IsFirstLine text line rest = HasNoNewline line × ((text ≡ line ++ NEWLINE ∷ rest) ⊎ ((text ≡ line) × (rest ≡ [])))
 

@@ -1,11 +1,13 @@
-ghost use Rattle.std.specs.Prelude.{◌≡◌, ◌≤◌, ◌<◌, ◌+◌, ◌||◌, true, false, ℕ, List, [], ◌∷◌, ◌++◌, length, take, nat_lt, IfOk, IfErr, OnOk, MatchResult};
+ghost use Rattle.std.specs.Prelude.{◌≡◌, ◌≤◌, ◌<◌, ◌+◌, ◌||◌, true, false, ℕ, List, []};
+ghost use Rattle.std.specs.Prelude.{◌∷◌, ◌++◌, length, take, nat_lt, IfOk, IfErr, OnOk, MatchResult};
 ghost use Rattle.std.specs.List.{list_any};
 ghost use Rattle.text_lines.specs.Lines.{HasNoNewline, is_newline, line_of};
 ghost use Rattle.text_lines.specs.declared.TheConstants.{NEWLINE};
 ghost use Rattle.desk_ports.specs.Content.{Took};
 ghost use Rattle.text_lines.specs.LineReader.{has_line, needs_no_reading};
 ghost use Rattle.text_lines.specs.LineReader.{HandsOutNext, EndsReading, CountsReading, Keeps, IsUnfinished};
-ghost use Rattle.text_lines.specs.parts.Gathering.{Gathers, IsCut, IsPastLimit, ReadsMore, FailsToRead, HandsOutWaiting};
+ghost use Rattle.text_lines.specs.parts.Gathering.{Gathers, IsCut, IsPastLimit};
+ghost use Rattle.text_lines.specs.parts.Gathering.{ReadsMore, FailsToRead, HandsOutWaiting};
 
 use crate::refusal::ReadRefusal;
 use crate::split_at_newline;
@@ -89,8 +91,8 @@ impl LineReader {
         self.scanned < waiting.len()
     }
 
-    /// Whether the line that waits has more bytes than a line may have, as far as it is read: which of the two limits it
-    /// is that `PastLimit` speaks of.
+    /// Whether the line that waits has more bytes than a line may have, as far as it is read: which of the two limits
+    /// it is that `PastLimit` speaks of.
     pub fn is_line_too_long(&self) -> bool
         ensures { result ≡ nat_lt self.now.longest (length (line_of self.now.waiting)) }
     {
@@ -206,14 +208,16 @@ fn cut_line(bytes: &[u8], scanned: usize) -> Cut
     }
 }
 
-// How many bytes stand before the first newline, or are there without one, where the first so many are known to be none.
+// How many bytes stand before the first newline, or are there without one, where the first so many are known to be
+// none.
 fn scan(bytes: &[u8], scanned: usize) -> usize
     requires within { scanned ≤ length bytes.now }
     requires scanned { HasNoNewline (take scanned bytes.now) }
     ensures within { result ≤ length bytes.now }
     ensures scanned { HasNoNewline (take result bytes.now) }
     ensures newline { nat_lt result (length bytes.now) ≡ list_any is_newline bytes.now }
-    ensures found { result < length bytes.now → (rest : List ℕ) × (bytes.now ≡ take result bytes.now ++ NEWLINE ∷ rest) }
+    ensures found { result < length bytes.now
+        → (rest : List ℕ) × (bytes.now ≡ take result bytes.now ++ NEWLINE ∷ rest) }
 {
     match split_at_newline(&bytes[scanned..]) {
         Some((line, _)) => scanned + line.len(),

@@ -12,7 +12,7 @@ use Rattle.monitor_rule.specs.declared.entries.Entry.{Entry}
 use Rattle.monitor_rule.specs.Steps.{AreKnown}
 use Rattle.check_monitor.specs.Monitor.{RecorderState, ReaderState, AreAll, AreWhole, IsSame, new_recorder_of, new_recorders, new_reader_of}
 use Rattle.check_monitor.proofs.All.{all_new, all_same}
-use Rattle.monitor_door.proofs.Recordings.{stays_same}
+use Rattle.desk_server.proofs.Recordings.{stays_same}
 use Rattle.monitor_journal.specs.Journal.{entries_text, missed_lines, Writes, Journals, EndsJournal}
 use Rattle.monitor_journal.specs.declared.writing.Writing.{Writing}
 use Rattle.monitor_journal.specs.declared.writing.Writing.TheVariants.{GoesOn}
@@ -20,7 +20,7 @@ use Rattle.std.proofs.lemmas.Grind.{flat_map-append}
 use Rattle.monitor_journal.specs.Lines.{entry_text}
 use Rattle.monitor_journal.proofs.Lines.{known-more}
 use Rattle.monitor_journal.proofs.Writes.{writes_then}
-use Rattle.door_workers.specs.Monitored.{RecordsSome}
+use Rattle.desk_server.specs.Monitored.{RecordsSome}
 use Rattle.watch_runs.specs.Watching.{HaveRecorded, Journaled, ending_with}
 
 same_each : (old new : List RecorderState) → AllZip RecordsSome old new → AllZip IsSame old new

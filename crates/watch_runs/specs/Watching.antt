@@ -15,7 +15,7 @@ use Rattle.check_monitor.specs.Monitor.{RecorderState, AreWhole, new_recorders}
 use Rattle.monitor_journal.specs.Journal.{entries_text, missed_lines, Writes}
 use Rattle.monitor_journal.specs.declared.writing.Writing.{Writing}
 use Rattle.monitor_journal.specs.declared.writing.Writing.TheVariants.{GoesOn, SinkFailed, OutOfMemory}
-use Rattle.door_workers.specs.Monitored.{RecordsSome}
+use Rattle.desk_server.specs.Monitored.{RecordsSome}
 use Rattle.serve_runs.specs.Serving.{IsUndone}
 
 -- ---- endings

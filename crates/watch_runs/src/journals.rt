@@ -4,7 +4,7 @@ ghost use Rattle.monitor_journal.specs.declared.writing.Writing.TheVariants.{Goe
 
 use check_monitor::Reader;
 use desk_ports::{Bytes, Sink};
-use door_workers::Notes;
+use desk_server::Notes;
 use monitor_journal::{Writing, hand_on};
 use serve_runs::{Chore, Turn};
 use std::alloc::Global;

@@ -1,6 +1,6 @@
 // That checks were missed is told to a person at once, a line a second at most. No clause speaks of it.
 use check_monitor::Alarm;
-use door_workers::Notes;
+use desk_server::Notes;
 use link_ports::{Gate, GateStep};
 use std::sync::atomic::AtomicU64;
 use std::sync::atomic::Ordering::SeqCst;

@@ -1,28 +1,15 @@
 -- A reply that is spelled behind other bytes.
-use Rattle.std.proofs.Common.{◌≡◌, ℕ, ◌+◌, ◌≤◌, suc, List, ◌∷◌, ◌++◌, length, take, Option, refl, sym, ap, ◌∙◌}
-use Rattle.std.proofs.Common.{append_assoc, arith}
+use Rattle.std.proofs.Common.{◌≡◌, ℕ, ◌+◌, ◌≤◌, suc, List, ◌∷◌, ◌++◌, length, Option, sym, ap, ◌∙◌, arith}
 use Rattle.std.specs.Int.{w16, w32, w64, to_be_bytes}
-use Rattle.std.proofs.lemmas.List.{take_at, length-append}
+use Rattle.std.proofs.lemmas.List.{length-append}
 use Rattle.bucket_eval.specs.declared.answers.Row.{Row}
 use Rattle.bucket_eval.specs.declared.answers.Verdict.{Verdict}
-use Rattle.wire_messages.specs.declared.messages.Message.TheVariants.{Judged}
-use Rattle.wire_messages.specs.Format.{text}
-use Rattle.wire_messages.specs.Field as field
-use Rattle.wire_messages.specs.Frame.{body, spelling, with_sequence}
-use Rattle.wire_messages.specs.parts.Packed.{IsShortOptionalRow}
+use Rattle.wire_fields.specs.declared.messages.Message.TheVariants.{Judged}
+use Rattle.wire_fields.specs.Format.{text}
+use Rattle.wire_fields.specs.Field as field
+use Rattle.wire_reading.specs.Frame.{body, spelling, with_sequence}
+use Rattle.wire_fields.specs.Packed.{IsShortOptionalRow}
 use Rattle.wire_messages.proofs.Lending.{row_size, text_size}
-
--- what was there is left where what was put behind it is cut off
-pub cut_back : (old new behind : List ℕ) → new ≡ old ++ behind → take (length old) new ≡ old
-cut_back old new behind is = ap (take (length old)) is ∙ take_at old behind (length old) refl
-
--- three texts that were put one behind the other
-pub three_behind : (old one two three first second third : List ℕ) → one ≡ old ++ first → two ≡ one ++ second
-    → three ≡ two ++ third
-    → three ≡ old ++ (first ++ (second ++ third))
-three_behind old one two three first second third is_one is_two is_three =
-    is_three ∙ ap (λ (t : List ℕ). t ++ third) is_two ∙ append_assoc one second third
-    ∙ ap (λ (t : List ℕ). t ++ (second ++ third)) is_one ∙ append_assoc old first (second ++ third)
 
 pub key_few : (flag : ℕ) (key : List ℕ) (row : Option Row) → flag ∷ key ≡ (field.optional field.row).spelled row
     → IsShortOptionalRow row → length key ≤ 771

@@ -1,6 +1,6 @@
 -- Messages whose parts are lent are heard: no field is wrong, and none is too long for a frame.
-use Rattle.std.proofs.Common.{◌≡◌, ℕ, ◌+◌, ◌^◌, ◌<◌, ◌≤◌, Bool, true, false, cond, ltb, eqb, List, [], ◌∷◌, ◌++◌, length}
-use Rattle.std.proofs.Common.{Option, Some, None, is_none, refl, ap, ◌∙◌, arith}
+use Rattle.std.proofs.Common.{◌≡◌, ℕ, ◌+◌, ◌^◌, ◌<◌, ◌≤◌, Bool, true, false, cond, ltb, eqb, List, [], ◌∷◌, ◌++◌}
+use Rattle.std.proofs.Common.{length, Option, Some, None, is_none, refl, ap, ◌∙◌, arith}
 use Rattle.std.specs.Int.{w16, w64, to_be_bytes}
 use Rattle.std.proofs.lemmas.Bool.{ltb-false}
 use Rattle.std.proofs.lemmas.List.{length-append}
@@ -21,17 +21,16 @@ use Rattle.cynara_keys.specs.declared.names.NameRefusal.{NameRefusal}
 use Rattle.cynara_keys.specs.declared.names.NameRefusal.TheVariants.{Empty, TooLong}
 use Rattle.bucket_eval.specs.declared.answers.Row.{Row}
 use Rattle.bucket_eval.specs.declared.answers.Verdict.{Verdict}
-use Rattle.wire_messages.specs.declared.messages.Message.TheVariants.{Judged, ListRow}
-use Rattle.wire_messages.specs.declared.operations.Heard.TheVariants.{Replies}
-use Rattle.wire_messages.specs.Format.{text}
-use Rattle.wire_messages.specs.Field as field
-use Rattle.wire_messages.specs.Frame.{body, with_sequence}
-use Rattle.wire_messages.specs.Hearing.{IsHeard}
-use Rattle.wire_messages.specs.Message.{fields}
-use Rattle.wire_messages.specs.Right.{IsField, IsFieldText, IsRuling, IsPolicy}
-use Rattle.wire_messages.specs.Right.{IsOptionalRow, IsRightVerdict}
-use Rattle.wire_messages.specs.parts.Packed.{IsShortOptionalRow, IsShortVerdict}
-use Rattle.wire_messages.proofs.FieldLaws.{same_is, and_both}
+use Rattle.wire_fields.specs.declared.messages.Message.TheVariants.{Judged, ListRow}
+use Rattle.wire_fields.specs.declared.operations.Heard.TheVariants.{Replies}
+use Rattle.wire_fields.specs.Format.{text}
+use Rattle.wire_fields.specs.Field as field
+use Rattle.wire_reading.specs.Frame.{body, with_sequence}
+use Rattle.wire_reading.specs.Hearing.{IsHeard}
+use Rattle.wire_fields.specs.Message.{fields}
+use Rattle.wire_fields.specs.Right.{IsField, IsFieldText, IsRuling, IsPolicy, IsOptionalRow, IsRightVerdict}
+use Rattle.wire_fields.specs.Packed.{IsShortOptionalRow, IsShortVerdict}
+use Rattle.wire_fields.proofs.FieldLaws.{same_is, and_both}
 
 -- ---- texts are short
 
@@ -62,7 +61,8 @@ metadata_short bytes is = by_cases (ltb 255 (length bytes)) _ refl is
 
 ruling_short : (ruling : Ruling) → IsRuling ruling → length ruling.metadata ≤ 255
 ruling_short ruling is =
-    metadata_short ruling.metadata (and_both (is_metadata ruling.metadata) (may_carry ruling.kind ruling.metadata) is.1).0
+    metadata_short ruling.metadata
+    (and_both (is_metadata ruling.metadata) (may_carry ruling.kind ruling.metadata) is.1).0
 
 field_short : (one : Field) → IsField one → length (field_text one) ≤ 255
 field_short Any is = omega arith

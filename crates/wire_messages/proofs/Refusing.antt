@@ -1,11 +1,11 @@
 -- A stream that is refused has one refusal, and one list of messages before it.
 use Rattle.std.proofs.Common.{◌≡◌, ℕ, List, [], ◌∷◌, ◌++◌, refl, sym, ap, subst, ◌∙◌}
-use Rattle.wire_messages.specs.declared.messages.Framed.{Framed}
-use Rattle.wire_messages.specs.declared.operations.Heard.{Heard}
-use Rattle.wire_messages.specs.declared.refusals.WireRefusal.{WireRefusal}
-use Rattle.wire_messages.specs.Stream.{Front, Partial, Wrong, Whole, first_of, Hears, IsOpen}
-use Rattle.wire_messages.proofs.Streams.{hears_more, wrong_front}
-use Rattle.wire_messages.proofs.Hearings.{same_whole}
+use Rattle.wire_fields.specs.declared.messages.Framed.{Framed}
+use Rattle.wire_fields.specs.declared.operations.Heard.{Heard}
+use Rattle.wire_fields.specs.declared.refusals.WireRefusal.{WireRefusal}
+use Rattle.wire_reading.specs.Stream.{Front, Partial, Wrong, Whole, first_of, Hears, IsOpen}
+use Rattle.wire_reading.proofs.Streams.{hears_more, wrong_front}
+use Rattle.wire_reading.proofs.Hearings.{same_whole}
 
 same_wrong : (front : Front) (r s : WireRefusal) → front ≡ Wrong r → front ≡ Wrong s → r ≡ s
 same_wrong front r s first second = cc
@@ -14,8 +14,11 @@ same_wrong front r s first second = cc
 refused_once : (heard : Heard) (bytes : List ℕ) (ms ns : List Framed) (x y : List ℕ) (r s : WireRefusal)
     → Hears heard bytes ms x → first_of heard x ≡ Wrong r → Hears heard bytes ns y → first_of heard y ≡ Wrong s
     → (ms ≡ ns) × (r ≡ s)
-refused_once heard bytes [] [] x y r s first wrong second wrong_too =
-    (refl, same_wrong (first_of heard bytes) r s (ap (first_of heard) first ∙ wrong) (ap (first_of heard) second ∙ wrong_too))
+refused_once heard bytes [] [] x y r s first wrong second wrong_too = (
+  refl,
+  same_wrong (first_of heard bytes) r s (ap (first_of heard) first ∙ wrong)
+      (ap (first_of heard) second ∙ wrong_too),
+)
 refused_once heard bytes [] (n ∷ ns) x y r s first wrong second wrong_too =
     let refused : first_of heard bytes ≡ Wrong r = ap (first_of heard) first ∙ wrong in
     let whole : first_of heard bytes ≡ Whole n second.0 = second.1 in
@@ -56,7 +59,8 @@ pub one_refusal : (heard : Heard) (bytes more others rest : List ℕ) (ms ns : L
 one_refusal heard bytes more others rest ms ns x y r s same first wrong second wrong_too =
     refused_once heard (bytes ++ more) ms ns (x ++ more) (y ++ rest) r s (hears_more heard bytes more ms x first)
     (wrong_front heard x more r wrong)
-    (subst (λ (stream : List ℕ). Hears heard stream ns (y ++ rest)) (sym same) (hears_more heard others rest ns y second))
+    (subst (λ (stream : List ℕ). Hears heard stream ns (y ++ rest)) (sym same)
+    (hears_more heard others rest ns y second))
     (wrong_front heard y rest s wrong_too)
 
 pub refused_to_its_end : (heard : Heard) (bytes more : List ℕ) (ms ns : List Framed) (x y : List ℕ) (r : WireRefusal)

@@ -1,6 +1,6 @@
 -- The text of a template has room in a field.
-use Rattle.std.proofs.Common.{◌≡◌, ℕ, ◌+◌, ◌*◌, ◌^◌, ◌<◌, ◌≤◌, Bool, true, false, cond, ltb, leb, eqb, ◌&&◌, List, [], ◌∷◌, ◌++◌}
-use Rattle.std.proofs.Common.{length, Option, Some, None, is_none, Result, Ok, Err, refl, subst, arith}
+use Rattle.std.proofs.Common.{◌≡◌, ℕ, ◌+◌, ◌*◌, ◌^◌, ◌<◌, ◌≤◌, Bool, true, false, cond, ltb, leb, eqb, ◌&&◌, List, []}
+use Rattle.std.proofs.Common.{◌∷◌, ◌++◌, length, Option, Some, None, is_none, Result, Ok, Err, refl, subst, arith}
 use Rattle.std.specs.Option.{option_map}
 use Rattle.std.specs.List.{list_all}
 use Rattle.std.proofs.lemmas.Bool.{ltb-false, leb-true}
@@ -26,10 +26,10 @@ use Rattle.rule_templates.specs.declared.placeholders.Placeholder.TheVariants.{P
 use Rattle.rule_templates.specs.declared.templates.TemplateRefusal.{TemplateRefusal}
 use Rattle.rule_templates.specs.declared.templates.TemplateRefusal.TheVariants.{TooMany}
 use Rattle.rule_templates.specs.Placeholder.{placeholder_text, placeholder_of, begins_with_tilde}
-use Rattle.rule_templates.specs.TemplateLine.{word_text, change_words, line_text, is_label_word, word_of, change_of, line_with}
-use Rattle.rule_templates.specs.TemplateLine.{line_of, line_of_words}
+use Rattle.rule_templates.specs.TemplateLine.{word_text, change_words, line_text, is_label_word, word_of, change_of}
+use Rattle.rule_templates.specs.TemplateLine.{line_with, line_of, line_of_words}
 use Rattle.rule_templates.specs.Template.{with_front, with_line, template_from, template_of, template_text}
-use Rattle.wire_messages.proofs.FieldLaws.{and_both}
+use Rattle.wire_fields.proofs.FieldLaws.{and_both}
 
 modes_small : (modes : Modes) → length (spelling modes) ≤ 64
 modes_small modes = by_cases (is_mode_word (spelling modes)) refl (modes_of-spelling modes)
@@ -112,7 +112,8 @@ words_small (subject ∷ object ∷ modes) line e = by_cases (is_label_word subj
     by_cases : (b : Bool) → cond b (line_with (word_of subject) (word_of object) (change_of modes)) (Err Form) ≡ Ok line
         → length (line_text line) ≤ 641
     by_cases false e = absurd cc
-    by_cases true e = line_with_small subject object (word_of subject) (word_of object) (change_of modes) line refl refl e
+    by_cases true e =
+        line_with_small subject object (word_of subject) (word_of object) (change_of modes) line refl refl e
 
 -- a line and those behind it, where the text of these is known to be small
 with_line_small : (number : ℕ) (read : Result TemplateLine LineFault)
@@ -151,7 +152,8 @@ lines_small number [] lines low e =
     let none : [] ≡ lines = cc in
     subst (λ (all : List TemplateLine). length (template_text all) + 642 * number ≤ 41730) none (omega arith)
 lines_small number (text ∷ texts) lines low e =
-    with_line_small number (line_of text) (template_from (number + 1) texts) lines (λ line. words_small (words_of text) line)
+    with_line_small number (line_of text) (template_from (number + 1) texts) lines
+    (λ line. words_small (words_of text) line)
     (λ rest few. lines_small (number + 1) texts rest (omega arith)) e
 
 pub template_room : (lines : List TemplateLine) → template_of (template_text lines) ≡ Ok lines

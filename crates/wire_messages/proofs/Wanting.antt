@@ -1,17 +1,17 @@
 -- A piece that is no longer than what is wanted does not pass the end of its frame.
-use Rattle.std.proofs.Common.{◌≡◌, ℕ, ◌+◌, ◌-◌, ◌<◌, ◌≤◌, Bool, true, false, cond, ltb, List, [], ◌∷◌, ◌++◌, length, take}
-use Rattle.std.proofs.Common.{drop, Option, Some, None, refl, sym, ap, subst, ◌∙◌, arith}
+use Rattle.std.proofs.Common.{◌≡◌, ℕ, ◌+◌, ◌-◌, ◌<◌, ◌≤◌, Bool, true, false, cond, ltb, List, [], ◌∷◌, ◌++◌, length}
+use Rattle.std.proofs.Common.{take, drop, Option, Some, None, refl, sym, ap, subst, ◌∙◌, arith}
 use Rattle.std.specs.Int.{w32, from_be_bytes}
 use Rattle.std.proofs.lemmas.Bool.{ltb-false, ltb-true}
 use Rattle.std.proofs.lemmas.List.{length-append, take-append-le, drop_all}
-use Rattle.wire_messages.specs.declared.messages.Framed.{Framed}
-use Rattle.wire_messages.specs.declared.operations.Heard.{Heard}
-use Rattle.wire_messages.specs.declared.refusals.WireRefusal.{WireRefusal}
-use Rattle.wire_messages.specs.Frame.{length_of, length_fault, frame_of}
-use Rattle.wire_messages.specs.Stream.{Partial, Whole, front_of, with_length, first_of, Hears, HearsOne, none, one, IsOpen}
-use Rattle.wire_messages.specs.Stream.{wanted}
-use Rattle.wire_messages.proofs.Settling.{open_bound, short_open}
-use Rattle.wire_messages.proofs.Hearings.{framed_spelt}
+use Rattle.wire_fields.specs.declared.messages.Framed.{Framed}
+use Rattle.wire_fields.specs.declared.operations.Heard.{Heard}
+use Rattle.wire_fields.specs.declared.refusals.WireRefusal.{WireRefusal}
+use Rattle.wire_reading.specs.Frame.{length_of, length_fault, frame_of}
+use Rattle.wire_reading.specs.Stream.{Partial, Whole, front_of, with_length, first_of, Hears, HearsOne, none, one}
+use Rattle.wire_reading.specs.Stream.{IsOpen, wanted}
+use Rattle.wire_reading.proofs.Settling.{open_bound, short_open}
+use Rattle.wire_reading.proofs.Hearings.{framed_spelt}
 
 -- the bytes do not pass the end of their first frame
 within : (heard : Heard) (partial piece : List ℕ) → IsOpen heard partial → length piece ≤ wanted partial
@@ -42,8 +42,8 @@ behind_whole heard bytes framed rest e = by_length (ltb (length bytes) 4) e
         → rest ≡ drop (length_of bytes + 4) bytes
     by_size true e = absurd cc
     by_size false e =
-        sym (framed_spelt heard bytes (frame_of heard (take (length_of bytes + 4) bytes)) (drop (length_of bytes + 4) bytes)
-        framed rest e).1
+        sym (framed_spelt heard bytes (frame_of heard (take (length_of bytes + 4) bytes))
+        (drop (length_of bytes + 4) bytes) framed rest e).1
 
     by_fault : (fault : Option WireRefusal) → with_length heard bytes (length_of bytes + 4) fault ≡ Whole framed rest
         → rest ≡ drop (length_of bytes + 4) bytes
@@ -66,8 +66,8 @@ nothing_heard heard (framed ∷ messages) behind is =
     let whole : first_of heard [] ≡ Whole framed is.0 = is.1 in
     absurd cc
 
-pub hears_one : (heard : Heard) (partial piece : List ℕ) (messages : List Framed) (behind : List ℕ) → IsOpen heard partial
-    → length piece ≤ wanted partial → Hears heard (partial ++ piece) messages behind
+pub hears_one : (heard : Heard) (partial piece : List ℕ) (messages : List Framed) (behind : List ℕ)
+    → IsOpen heard partial → length piece ≤ wanted partial → Hears heard (partial ++ piece) messages behind
     → HearsOne (partial ++ piece) messages behind
 hears_one heard partial piece [] behind is few heard_all = none refl (sym heard_all)
 hears_one heard partial piece (framed ∷ messages) behind is few heard_all =

@@ -1,15 +1,1 @@
-pub mod Limits
-pub mod Left
-pub mod Format
-pub mod Field
-pub mod Refused
-pub mod Operation
-pub mod Message
-pub mod Right
-pub mod Frame
-pub mod Hearing
-pub mod Lent
-pub mod Stream
 pub mod Commands
-pub mod Appended
-pub mod parts

@@ -1,35 +1,14 @@
 ghost use Rattle.std.specs.Prelude.{◌≡◌, Some, IfOk};
 ghost use Rattle.desk_state.specs.declared.commands.Command.TheVariants.{Install as InstallCommand};
 ghost use Rattle.wire_messages.specs.Commands as words;
-ghost use Rattle.wire_messages.specs.Message.{commit_of};
 ghost use Rattle.wire_messages.specs.Commands.{IsByRule};
-ghost use Rattle.wire_messages.specs.Right.{IsRight, HasRoom};
+ghost use Rattle.wire_fields.specs.Right.{IsRight, HasRoom};
 
-use crate::Message;
 use crate::right_fields::{command_is_right, refusal_is_right, text_is_right};
 use app_registry::Install;
 use desk_state::{Command, Refusal};
 use std::alloc::AllocError;
-
-impl Message {
-    /// The commit that a reply tells: of the policies that it was given under, or of the command that it accepts. `None`
-    /// exactly for a message that tells none.
-    pub fn commit(&self) -> Option<u64>
-        ensures { result ≡ commit_of self.now }
-    {
-        match self {
-            Message::Judged { verdict } => Some(verdict.commit()),
-            Message::FromAgent { commit, .. } => Some(*commit),
-            Message::NotResolved { commit, .. } => Some(*commit),
-            Message::NoAgent { commit, .. } => Some(*commit),
-            Message::AgentGone { commit, .. } => Some(*commit),
-            Message::AgentFull { commit, .. } => Some(*commit),
-            Message::Done { commit, .. } => Some(*commit),
-            Message::StateEnd { commit } => Some(*commit),
-            _ => None,
-        }
-    }
-}
+use wire_fields::Message;
 
 /// The command of an administrator's message; `None` exactly for a message that is no command.
 pub fn command_of(message: &Message) -> Result<Option<Command>, AllocError>
@@ -76,8 +55,8 @@ pub fn command_of(message: &Message) -> Result<Option<Command>, AllocError>
     }
 }
 
-/// The message that carries a command, from which `command_of` gives the command back. No field of it is wrong, where its
-/// lists have fewer than 2^32 elements.
+/// The message that carries a command, from which `command_of` gives the command back. No field of it is wrong, where
+/// its lists have fewer than 2^32 elements.
 pub fn message_of(command: &Command) -> Result<Message, AllocError>
     ensures message { IfOk result (λ message. message ≡ words.message_of command.now) }
     ensures back { IfOk result (λ message. words.command_of message ≡ Some command.now) }

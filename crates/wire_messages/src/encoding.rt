@@ -1,17 +1,16 @@
-ghost use Rattle.wire_messages.specs.Limits.{most_length};
+ghost use Rattle.wire_fields.specs.Limits.{most_length};
 ghost use Rattle.std.specs.Prelude.{◌≡◌, ◌≤◌, ◌++◌, ◌∷◌, [], length, drop, Ok, IfOk, OnOk, IfErr, OnErr};
 ghost use Rattle.std.specs.Int.{w16, w32, to_be_bytes};
-ghost use Rattle.wire_messages.specs.Operation.{number_of};
-ghost use Rattle.wire_messages.specs.Frame.{body, spelling, with_sequence, frame_of, IsTooLong};
-ghost use Rattle.wire_messages.specs.Hearing.{IsHeard};
-ghost use Rattle.wire_messages.specs.declared.operations.Heard.{Heard};
+ghost use Rattle.wire_fields.specs.Operation.{number_of};
+ghost use Rattle.wire_reading.specs.Frame.{body, spelling, with_sequence, frame_of, IsTooLong};
+ghost use Rattle.wire_reading.specs.Hearing.{IsHeard};
+ghost use Rattle.wire_fields.specs.declared.operations.Heard.{Heard};
 
-use crate::limits::MOST_LENGTH;
-use crate::message_writers::{operation, put_fields};
-use crate::{EncodeRefusal, Framed, Message, Operation};
+use crate::message_writers::put_fields;
 use byteorder::{BigEndian, ByteOrder};
 use desk_ports::Bytes;
 use std::alloc::{AllocError, Global};
+use wire_fields::{EncodeRefusal, Framed, MOST_LENGTH, Message, Operation, operation};
 
 /// Spells a message with its sequence number, as a frame. Refuses `TooLong` where the frame's length would be above
 /// 1,048,576, and gives that length.

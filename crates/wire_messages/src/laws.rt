@@ -2,12 +2,12 @@
 
 ghost use Rattle.std.specs.Prelude.{◌≡◌, ◌<◌, ◌≤◌, ◌++◌, ℕ, List, length, slice_index};
 ghost use Rattle.std.specs.List.{flat_map, AllByRecursion};
-ghost use Rattle.wire_messages.specs.declared.messages.Framed.{Framed};
-ghost use Rattle.wire_messages.specs.declared.operations.Heard as heard_type;
-ghost use Rattle.wire_messages.specs.Frame.{spelling};
-ghost use Rattle.wire_messages.specs.Hearing.{IsHeard};
-ghost use Rattle.wire_messages.specs.declared.refusals.WireRefusal as refusal_type;
-ghost use Rattle.wire_messages.specs.Stream.{Hears, HearsOne, IsOpen, Wrong, first_of, wanted};
+ghost use Rattle.wire_fields.specs.declared.messages.Framed.{Framed};
+ghost use Rattle.wire_fields.specs.declared.operations.Heard as heard_type;
+ghost use Rattle.wire_reading.specs.Frame.{spelling};
+ghost use Rattle.wire_reading.specs.Hearing.{IsHeard};
+ghost use Rattle.wire_fields.specs.declared.refusals.WireRefusal as refusal_type;
+ghost use Rattle.wire_reading.specs.Stream.{Hears, HearsOne, IsOpen, Wrong, first_of, wanted};
 
 /// Each message has one spelling, and no spelling begins another: bytes that begin with the spellings of two messages,
 /// whatever sides hear them, begin with one message.
@@ -54,8 +54,8 @@ pub fn one_refusal()
         → Hears heard (bytes ++ more) ns y → IsOpen heard y → ⊥ }
 {}
 
-/// No byte past a frame: of a piece that is no longer than what is wanted of the frame under way, one message at most is
-/// heard, and where one is, it ends with the piece.
+/// No byte past a frame: of a piece that is no longer than what is wanted of the frame under way, one message at most
+/// is heard, and where one is, it ends with the piece.
 pub fn no_byte_past_a_frame()
     ensures { (heard : heard_type.Heard) (partial piece : List ℕ) (messages : List Framed) (behind : List ℕ)
         → IsOpen heard partial → length piece ≤ wanted partial → Hears heard (partial ++ piece) messages behind

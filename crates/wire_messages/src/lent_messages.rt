@@ -1,12 +1,12 @@
 // Messages that are spelled from parts that stand elsewhere, so that none is copied.
 ghost use Rattle.std.specs.Prelude.{◌≡◌, [], ◌++◌, OnOk, OnErr};
-ghost use Rattle.wire_messages.specs.Frame.{spelling, with_sequence};
-ghost use Rattle.wire_messages.specs.Hearing.{IsHeard};
-ghost use Rattle.wire_messages.specs.Lent.{asks, judged};
-ghost use Rattle.wire_messages.specs.Right.{IsRightVerdict};
-ghost use Rattle.wire_messages.specs.parts.Packed.{IsShortVerdict, IsShortOptionalRow};
-ghost use Rattle.wire_messages.specs.declared.operations.Heard.TheVariants.{AtClient, Replies};
-ghost use Rattle.wire_messages.specs.declared.messages.Message.TheVariants.{Judged, ListRow};
+ghost use Rattle.wire_reading.specs.Frame.{spelling, with_sequence};
+ghost use Rattle.wire_reading.specs.Hearing.{IsHeard};
+ghost use Rattle.wire_reading.specs.Lent.{asks, judged};
+ghost use Rattle.wire_fields.specs.Right.{IsRightVerdict};
+ghost use Rattle.wire_fields.specs.Packed.{IsShortVerdict, IsShortOptionalRow};
+ghost use Rattle.wire_fields.specs.declared.operations.Heard.TheVariants.{AtClient, Replies};
+ghost use Rattle.wire_fields.specs.declared.messages.Message.TheVariants.{Judged, ListRow};
 
 use crate::encoding::set_length;
 use crate::lent_writers::{

@@ -3,27 +3,26 @@ ghost use Rattle.std.specs.Prelude.{◌≡◌, ◌≤◌, ◌+◌, [], ◌∷◌
 ghost use Rattle.std.specs.Int.{w16, w32, w64, to_be_bytes};
 ghost use Rattle.std.specs.Option.{option_map};
 ghost use Rattle.bucket_eval.specs.Found.{row_of};
-ghost use Rattle.wire_messages.specs.Appended.{Appended};
-ghost use Rattle.wire_messages.specs.Field as field;
-ghost use Rattle.wire_messages.specs.Format.{text};
-ghost use Rattle.wire_messages.specs.Frame.{body, spelling, with_sequence};
-ghost use Rattle.wire_messages.specs.Right.{IsRight};
-ghost use Rattle.wire_messages.specs.Lent.{asks, judged};
-ghost use Rattle.wire_messages.specs.declared.messages.Message.TheVariants.{Judged, ListRow};
+ghost use Rattle.wire_fields.specs.Appended.{Appended};
+ghost use Rattle.wire_fields.specs.Field as field;
+ghost use Rattle.wire_fields.specs.Format.{text};
+ghost use Rattle.wire_reading.specs.Frame.{body, spelling, with_sequence};
+ghost use Rattle.wire_fields.specs.Right.{IsRight};
+ghost use Rattle.wire_reading.specs.Lent.{asks, judged};
+ghost use Rattle.wire_fields.specs.declared.messages.Message.TheVariants.{Judged, ListRow};
 
-use crate::Operation;
 use crate::encoding::put_front;
 use crate::list_writers::put_optional_row;
-use crate::verdicts::lent_row;
 use crate::writers::{
-    put_bucket, put_key, put_kind_and_metadata, put_policy, put_question, put_ruling, put_text,
-    put1, put8,
+    put_bucket, put_key, put_kind_and_metadata, put_policy, put_question, put_ruling,
 };
 use bucket_eval::{BorrowedAnswer, Verdict};
 use byteorder::{BigEndian, ByteOrder};
 use cynara_keys::{Key, Policy, Question};
 use desk_ports::Bytes;
 use std::alloc::AllocError;
+use wire_fields::plain_writers::{put_text, put1, put8};
+use wire_fields::{Operation, lent_row};
 
 /// Puts the frame of a check, or of a simple check, into the empty buffer, behind four bytes of room for its length.
 pub fn put_check_frame(

@@ -1,14 +1,13 @@
 // Lists of fields, verdicts, installs and refusals, appended to a frame.
 ghost use Rattle.std.specs.Prelude.{◌∷◌, []};
-ghost use Rattle.wire_messages.specs.Format as format;
-ghost use Rattle.wire_messages.specs.Field as field;
-ghost use Rattle.wire_messages.specs.Refused as refused;
-ghost use Rattle.wire_messages.specs.Appended.{Appended};
+ghost use Rattle.wire_fields.specs.Format as format;
+ghost use Rattle.wire_fields.specs.Field as field;
+ghost use Rattle.wire_fields.specs.Refused as refused;
+ghost use Rattle.wire_fields.specs.Appended.{Appended};
 
-use crate::verdicts::{BorrowedRow, PackedVerdict};
 use crate::writers::{
-    put_author, put_bucket, put_count, put_ident, put_key, put_kind_and_metadata, put_name,
-    put_ruling, put_scope, put_text, put1, put1_and_text, put8,
+    put_author, put_bucket, put_ident, put_key, put_kind_and_metadata, put_name, put_ruling,
+    put_scope,
 };
 use app_registry::Install;
 use bucket_store::Change;
@@ -16,6 +15,8 @@ use cynara_keys::{Counted, Name};
 use desk_ports::Bytes;
 use desk_state::Refusal;
 use std::alloc::AllocError;
+use wire_fields::plain_writers::{put_count, put_text, put1, put1_and_text, put8};
+use wire_fields::{BorrowedRow, PackedVerdict};
 
 /// Puts one change of a batch.
 pub fn put_change(out: &mut Bytes, change: &Change) -> Result<(), AllocError>

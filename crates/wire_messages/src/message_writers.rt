@@ -1,77 +1,17 @@
 // The fields of each message, appended to a frame.
-ghost use Rattle.std.specs.Prelude.{◌≡◌};
-ghost use Rattle.wire_messages.specs.Appended.{Appended};
-ghost use Rattle.wire_messages.specs.Message as words;
-ghost use Rattle.wire_messages.specs.Operation.{number_of};
+ghost use Rattle.wire_fields.specs.Appended.{Appended};
+ghost use Rattle.wire_fields.specs.Message as words;
 
 use crate::list_writers::{put_changes, put_install, put_refusal, put_verdict};
 use crate::writers::{
-    put_bucket, put_file_name, put_filter, put_flag, put_ident, put_kind, put_part, put_policy,
-    put_question, put_ruling, put_scope, put_template, put_user_type, put4, put8,
+    put_bucket, put_file_name, put_filter, put_ident, put_policy, put_question, put_ruling,
+    put_scope, put_template, put_user_type,
 };
-use crate::{Message, Operation};
 use cynara_keys::Kind;
 use desk_ports::Bytes;
 use std::alloc::AllocError;
-
-/// The operation of a message.
-pub fn operation(message: &Message) -> Operation
-    ensures { result ≡ words.operation message.now }
-{
-    match message {
-        Message::Check { .. } => Operation::Check,
-        Message::SimpleCheck { .. } => Operation::SimpleCheck,
-        Message::SetBucket { .. } => Operation::SetBucket,
-        Message::RemoveBucket { .. } => Operation::RemoveBucket,
-        Message::SetPolicies { .. } => Operation::SetPolicies,
-        Message::Erase { .. } => Operation::Erase,
-        Message::Layout => Operation::Layout,
-        Message::SetTemplate { .. } => Operation::SetTemplate,
-        Message::UserSet { .. } => Operation::UserSet,
-        Message::UserRemove { .. } => Operation::UserRemove,
-        Message::Install { .. } => Operation::Install,
-        Message::Uninstall { .. } => Operation::Uninstall,
-        Message::Listing { .. } => Operation::Listing,
-        Message::AdminCheck { .. } => Operation::AdminCheck,
-        Message::Stop => Operation::Stop,
-        Message::InstallHybrid { .. } => Operation::InstallHybrid,
-        Message::Convert { .. } => Operation::Convert,
-        Message::ReadState => Operation::ReadState,
-        Message::ReadService => Operation::ReadService,
-        Message::Register { .. } => Operation::Register,
-        Message::AgentAnswer { .. } => Operation::AgentAnswer,
-        Message::Judged { .. } => Operation::Judged,
-        Message::FromAgent { .. } => Operation::FromAgent,
-        Message::NotResolved { .. } => Operation::NotResolved,
-        Message::NoAgent { .. } => Operation::NoAgent,
-        Message::AgentGone { .. } => Operation::AgentGone,
-        Message::AgentFull { .. } => Operation::AgentFull,
-        Message::Done { .. } => Operation::Done,
-        Message::Refused { .. } => Operation::Refused,
-        Message::ListRow { .. } => Operation::ListRow,
-        Message::ListEnd { .. } => Operation::ListEnd,
-        Message::StoreFault => Operation::StoreFault,
-        Message::StoreDamaged { .. } => Operation::StoreDamaged,
-        Message::StateFile { .. } => Operation::StateFile,
-        Message::StateEnd { .. } => Operation::StateEnd,
-        Message::AgentHere { .. } => Operation::AgentHere,
-        Message::ServiceEnd { .. } => Operation::ServiceEnd,
-        Message::Registered { .. } => Operation::Registered,
-        Message::KindTaken { .. } => Operation::KindTaken,
-        Message::AgentQuestion { .. } => Operation::AgentQuestion,
-        Message::UnknownNumber { .. } => Operation::UnknownNumber,
-        Message::AgentWithdrawn { .. } => Operation::AgentWithdrawn,
-    }
-}
-
-impl Message {
-    /// The number of the message's operation in a frame.
-    pub fn operation(&self) -> u8
-        ensures { result ≡ number_of (words.operation self.now) }
-    {
-        operation(self).number()
-    }
-}
+use wire_fields::Message;
+use wire_fields::plain_writers::{put_flag, put_kind, put_part, put4, put8};
 
 /// Appends the fields of a message.
 pub fn put_fields(out: &mut Bytes, message: &Message) -> Result<(), AllocError>

@@ -3,14 +3,13 @@
 ghost use Rattle.std.specs.Prelude.{◌<◌, ◌≤◌, ◌^◌, length, OnOk};
 ghost use Rattle.std.specs.List.{AllByRecursion};
 ghost use Rattle.wire_messages.specs.Commands.{IsByRule, HasRightText, install_message, message_of};
-ghost use Rattle.wire_messages.specs.Right.{IsName, IsBucket, IsIdent, IsAuthor, IsFilterField, IsKey, IsFilter};
-ghost use Rattle.wire_messages.specs.Right.{IsKind, IsRuling, IsChange, IsScope, ArePrivileges, IsInstall, IsTemplate, IsTold};
-ghost use Rattle.wire_messages.specs.Right.{IsRight, HasRoom, IsQuestion, IsRow, IsOptionalRow};
-ghost use Rattle.wire_messages.specs.Lent.{judged};
+ghost use Rattle.wire_fields.specs.Right.{IsName, IsBucket, IsIdent, IsAuthor, IsFilterField, IsKey, IsFilter, IsKind};
+ghost use Rattle.wire_fields.specs.Right.{IsRuling, IsChange, IsScope, ArePrivileges, IsInstall, IsTemplate, IsTold};
+ghost use Rattle.wire_fields.specs.Right.{IsRight, HasRoom, IsQuestion, IsRow, IsOptionalRow};
+ghost use Rattle.wire_reading.specs.Lent.{judged};
 ghost use Rattle.std.specs.Option.{option_map};
 ghost use Rattle.bucket_eval.specs.Found.{row_of};
 
-use crate::Message;
 use app_registry::{Ident, Install, NameSet, Scope};
 use bucket_eval::BorrowedAnswer;
 use bucket_store::Change;
@@ -21,6 +20,7 @@ use desk_ports::{Bytes, FileName};
 use desk_state::{Command, Refusal};
 use rule_templates::Template;
 use std::alloc::AllocError;
+use wire_fields::Message;
 
 fn name_is_right(name: &Name)
     ensures { IsName name.now }

@@ -1,11 +1,13 @@
 -- The words of a line, and what reading them gives.
-use Rattle.std.specs.Prelude.{◌≡◌, ◌==◌, ℕ, Option, option_map, find, length, Bool, false, List, [], ◌∷◌, Result, Ok, Err, codes, alloc_error}
+use Rattle.std.specs.Prelude.{◌≡◌, ◌==◌, ℕ, Option, option_map, find, length, Bool, false}
+use Rattle.std.specs.Prelude.{List, [], ◌∷◌, Result, Ok, Err, codes, alloc_error}
 use Rattle.std.specs.Option.{option_map_or}
 use Rattle.std.specs.Str.{bytes_eq}
 use Rattle.clap.specs.declared.error.ErrorKind.{ErrorKind}
 use Rattle.clap.specs.declared.error.ErrorKind.TheVariants.{OutOfMemory}
 use Rattle.word_line.specs.declared.lines.Line.{Line}
-use Rattle.word_line.specs.declared.lines.Line.TheVariants.{Local, SmackLoad, Admin, Serve, Watch, Sample, Agent, SmackAccess, Check, Simple}
+use Rattle.word_line.specs.declared.lines.Line.TheVariants.{Local, SmackLoad, Admin, Serve, Watch}
+use Rattle.word_line.specs.declared.lines.Line.TheVariants.{Sample, Agent, SmackAccess, Check, Simple}
 use Rattle.word_line.specs.declared.lines.LineRefusal.{LineRefusal}
 use Rattle.word_line.specs.declared.lines.LineRefusal.TheVariants.{NoLine, Memory}
 

@@ -11,8 +11,8 @@ pub fn help_text(alloc: Global) -> Result<String, AllocError> {
 }
 
 /// What is wrong with words that spell no line: the help where there are none, else which places of its command have
-/// no word, which word has no place, or that no command has this name, and which names are near; and that `--help` tells
-/// more. It is empty where they spell a line. The words stand in it as they are.
+/// no word, which word has no place, or that no command has this name, and which names are near; and that `--help`
+/// tells more. It is empty where they spell a line. The words stand in it as they are.
 pub fn fault_text<'a>(alloc: Global, words: &'a [String]) -> Result<String, AllocError> {
     if words.is_empty() {
         return help_text(alloc);

@@ -28,7 +28,8 @@ pub record AreLinesOf (text lines : List ℕ) (count : ℕ) : Type 0 where
 
 -- a text that begins so has its first wrong line here; nothing follows a text within the limit
 abbrev pub IsWrongAt : List ℕ → ℕ → Type 0
-IsWrongAt text line = (more : List ℕ) → (length text ≤ most_rules_bytes → more ≡ []) → rules_read (text ++ more) ≡ Err line
+IsWrongAt text line = (more : List ℕ) → (length text ≤ most_rules_bytes → more ≡ [])
+    → rules_read (text ++ more) ≡ Err line
 
 -- the text is rules, and this is what they grant the pair
 pub record AreGranted (text subject object : List ℕ) (granted : Modes) : Type 0 where
@@ -78,7 +79,8 @@ WritesAnswer taken taken_after text (Err Sink) = AppendedPart taken text taken_a
 WritesAnswer taken taken_after text (Err ending) = ⊥
 
 module _ (left left_after : Option (List ℕ)) (old new : List ℕ) where
-  -- One reading gave these bytes, and the text goes on with them. A text within the limit ends only where the source does.
+  -- One reading gave these bytes, and the text goes on with them. A text within the limit ends only where the source
+  -- does.
   pub record ReadsMore (more : Bool) : Type 0 where
     pub given : List ℕ
     pub took : Took left given left_after

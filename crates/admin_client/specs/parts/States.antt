@@ -1,8 +1,8 @@
 -- A client as its machine, its link and its dialler.
 use Rattle.std.specs.Prelude.{◌≡◌, ℕ, true, false, Option, is_some}
-use Rattle.wire_messages.specs.Frame.{with_sequence}
-use Rattle.wire_messages.specs.declared.messages.Message.{Message}
-use Rattle.wire_messages.specs.declared.operations.Heard.TheVariants.{Replies}
+use Rattle.wire_reading.specs.Frame.{with_sequence}
+use Rattle.wire_fields.specs.declared.messages.Message.{Message}
+use Rattle.wire_fields.specs.declared.operations.Heard.TheVariants.{Replies}
 use Rattle.client_core.specs.Listening.{unheard}
 use Rattle.client_core.specs.Admin.{Admin, exchange_of}
 use Rattle.client_core.specs.declared.stages.AdminStage.TheVariants as stage

@@ -3,10 +3,10 @@ use Rattle.std.specs.Prelude.{◌≡◌, ◌<◌, ℕ, List, ◌++◌, length, O
 use Rattle.link_ports.specs.Told.{IfTold}
 use Rattle.link_ports.specs.Traffic.{Traffic, with_received}
 use Rattle.link_ports.specs.LinkMarks.{LinkMarks}
-use Rattle.wire_messages.specs.Stream.{IsOpen}
-use Rattle.wire_messages.specs.declared.messages.Framed.{Framed}
-use Rattle.wire_messages.specs.declared.messages.Message.{Message}
-use Rattle.wire_messages.specs.declared.operations.Heard.TheVariants.{Replies}
+use Rattle.wire_reading.specs.Stream.{IsOpen}
+use Rattle.wire_fields.specs.declared.messages.Framed.{Framed}
+use Rattle.wire_fields.specs.declared.messages.Message.{Message}
+use Rattle.wire_fields.specs.declared.operations.Heard.TheVariants.{Replies}
 use Rattle.client_connection.specs.Reading.{IsRead}
 use Rattle.client_connection.specs.Coming.{Comes}
 use Rattle.client_connection.specs.declared.faults.Broken.{Broken}

@@ -1,6 +1,6 @@
 -- Messages of an administrator that are no commands.
-use Rattle.wire_messages.specs.declared.messages.Message.{Message}
-use Rattle.wire_messages.specs.declared.messages.Message.TheVariants.{Listing, AdminCheck, Stop, ReadState, ReadService}
+use Rattle.wire_fields.specs.declared.messages.Message.{Message}
+use Rattle.wire_fields.specs.declared.messages.Message.TheVariants.{Listing, AdminCheck, Stop, ReadState, ReadService}
 
 abbrev pub IsNoCommand : Message → Type 0
 IsNoCommand (Listing bucket filter) = Unit {0}

@@ -1,8 +1,8 @@
 -- A state that was prepared is kept and shown to all.
 use Rattle.std.specs.Prelude.{◌≡◌, ◌⊎◌, ℕ, List, [], ◌∷◌}
 use Rattle.desk_state.specs.DeskState.{DeskState}
-use Rattle.wire_messages.specs.declared.messages.Message.{Message}
-use Rattle.wire_messages.specs.declared.messages.Message.TheVariants.{Done, StoreFault}
+use Rattle.wire_fields.specs.declared.messages.Message.{Message}
+use Rattle.wire_fields.specs.declared.messages.Message.TheVariants.{Done, StoreFault}
 use Rattle.admin_door.specs.Side.{AdminSide, with_kept, with_shown, with_fault}
 
 -- it is, or its commit failed

@@ -4,10 +4,10 @@ use Rattle.desk_ports.specs.FileMap.{FileMap}
 use Rattle.desk_ports.specs.Disk.{DiskState}
 use Rattle.desk_keeper.specs.declared.keeper.Keeper.{Keeper}
 use Rattle.link_ports.specs.Traffic.{Traffic}
-use Rattle.wire_messages.specs.Stream.{Feeding}
-use Rattle.wire_messages.specs.declared.messages.Framed.{Framed}
-use Rattle.wire_messages.specs.declared.messages.Message.{Message}
-use Rattle.wire_messages.specs.declared.messages.Message.TheVariants.{Stop}
+use Rattle.wire_reading.specs.Stream.{Feeding}
+use Rattle.wire_fields.specs.declared.messages.Framed.{Framed}
+use Rattle.wire_fields.specs.declared.messages.Message.{Message}
+use Rattle.wire_fields.specs.declared.messages.Message.TheVariants.{Stop}
 use Rattle.door_frames.specs.Carried.{Carried}
 use Rattle.door_frames.specs.Ending.{EndsSending}
 use Rattle.door_frames.specs.Hearing.{HasHeard}
@@ -31,14 +31,16 @@ pub record Stands (start now : AdminTalk) (feeder : Feeding) (Keeps : List Excha
   pub keeps : Keeps answered
 
 -- from whatever start it stood so before, it stands so after
-abbrev pub Goes : {D : Type 0} → (D → Option DiskState) → (D → ℕ) → (D → ℕ → FileMap → Type 0) → Keeper D → AdminTalk → Feeding
+abbrev pub Goes : {D : Type 0} → (D → Option DiskState) → (D → ℕ) → (D → ℕ → FileMap → Type 0) → Keeper D → AdminTalk
+    → Feeding
     → Keeper D → AdminTalk → Feeding → Type 0
 Goes {D} state moment left_since was old before is new after =
     (first : Keeper D) (start : AdminTalk) → Stands start old before (RunsOver state moment left_since first was)
     → Stands start new after (RunsOver state moment left_since first is)
 
 -- from whatever start it stood so before, the connection has ended so
-abbrev pub Ends : {D : Type 0} → (D → Option DiskState) → (D → ℕ) → (D → ℕ → FileMap → Type 0) → Keeper D → AdminTalk → Feeding
+abbrev pub Ends : {D : Type 0} → (D → Option DiskState) → (D → ℕ) → (D → ℕ → FileMap → Type 0) → Keeper D → AdminTalk
+    → Feeding
     → Keeper D → AdminTalk → Ended → Type 0
 Ends {D} state moment left_since was old before is new ended =
     (first : Keeper D) (start : AdminTalk) → Stands start old before (RunsOver state moment left_since first was)
@@ -59,7 +61,8 @@ pub record IsWhole (told : Option DiskState) (framed : Framed) (old now : AdminT
   pub faults : now.faults ≡ old.faults
 
 -- some replies were sent, and the next was not
-pub record IsCutOff (ended : Ended) (sequence : ℕ) (replies : List Message) (old now : Option Traffic) (before after : ℕ) : Type 0 where
+pub record IsCutOff (ended : Ended) (sequence : ℕ) (replies : List Message) (old now : Option Traffic)
+    (before after : ℕ) : Type 0 where
   pub sent : List Message
   pub next : Message
   pub unsent : List Message

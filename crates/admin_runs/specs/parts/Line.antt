@@ -4,8 +4,8 @@ use Rattle.text_lines.specs.LineReader.{LineReading, HandsOut, Ends}
 use Rattle.line_script.specs.Block.{Block}
 use Rattle.line_script.specs.Grammar.{step_at}
 use Rattle.line_script.specs.declared.steps.Step.{Step}
-use Rattle.script_reading.specs.NextLine.{ReadsNext}
-use Rattle.wire_messages.specs.declared.messages.Message.{Message}
+use Rattle.script_replies.specs.NextLine.{ReadsNext}
+use Rattle.wire_fields.specs.declared.messages.Message.{Message}
 use Rattle.run_endings.specs.declared.endings.Ending.{Ending}
 use Rattle.run_endings.specs.declared.endings.Ending.TheVariants.{Done, Memory, Line}
 use Rattle.admin_runs.specs.AdminRun.{messages_of}
@@ -19,8 +19,8 @@ module _ (Talks : List Message → Ending → Type 0) (block next : Block) where
     pub reads : step_at block line ≡ Some (next, step)
     pub talks : Talks (messages_of (step ∷ [])) ending
 
-  -- The run ends at this line: it is outside the grammar, or memory ran out before its message was made, or its message ended
-  -- the run.
+  -- The run ends at this line: it is outside the grammar, or memory ran out before its message was made, or its message
+  -- ended the run.
   pub data StopsAtLine (line : List ℕ) (number : ℕ) (ending : Ending) : Type 0 where
     wrong : ending ≡ Line number → step_at block line ≡ None → Talks [] ending → StopsAtLine line number ending
     unread : ending ≡ Memory → Talks [] ending → StopsAtLine line number ending

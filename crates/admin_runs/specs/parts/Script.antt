@@ -3,7 +3,7 @@ use Rattle.std.specs.Prelude.{◌≡◌, ◌+◌, ℕ, true, false, List, Option
 use Rattle.line_script.specs.Block.{Block}
 use Rattle.line_script.specs.Turn.{is_in_block}
 use Rattle.line_script.specs.declared.steps.Step.{Step}
-use Rattle.wire_messages.specs.declared.messages.Message.{Message}
+use Rattle.wire_fields.specs.declared.messages.Message.{Message}
 use Rattle.run_endings.specs.Outside.{HadInput}
 use Rattle.run_endings.specs.declared.endings.Ending.{Ending}
 use Rattle.run_endings.specs.declared.endings.Ending.TheVariants.{Line}

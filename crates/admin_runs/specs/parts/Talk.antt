@@ -5,7 +5,7 @@ use Rattle.desk_ports.specs.Content.{Appended, AppendedPart}
 use Rattle.link_ports.specs.Traffic.{Traffic}
 use Rattle.link_ports.specs.LinkMarks.{LinkMarks}
 use Rattle.line_script.specs.declared.steps.Step.{Step}
-use Rattle.wire_messages.specs.declared.messages.Message.{Message}
+use Rattle.wire_fields.specs.declared.messages.Message.{Message}
 use Rattle.admin_client.specs.Sending.{State}
 use Rattle.run_endings.specs.Outside.{SinkSeen}
 use Rattle.run_endings.specs.Saying.{Said, WritesAnswers}
@@ -30,14 +30,15 @@ IsStop ending = ⊥
 -- a text is written, or a part of it where the sink failed, or nothing where memory ran out
 abbrev pub WritesText : List ℕ → SinkSeen → SinkSeen → Result (Unit {0}) Ending → Type 0
 WritesText text before after (Ok value) = Appended before.taken text after.taken × (after.faults ≡ before.faults)
-WritesText text before after (Err Sink) = AppendedPart before.taken text after.taken × (after.faults ≡ next_count before.faults)
+WritesText text before after (Err Sink) = AppendedPart before.taken text after.taken
+    × (after.faults ≡ next_count before.faults)
 WritesText text before after (Err Memory) = (after.taken ≡ before.taken) × (after.faults ≡ before.faults)
 WritesText text before after (Err ending) = ⊥
 
 module _ {N L : Type 0} (link_faults : L → ℕ) (marks : L → LinkMarks) (traffic : L → Option Traffic)
     (faults dials : N → ℕ) (given_back : N → Option (List L)) where
-  -- These messages were due; each was sent once and answered, in order, but for a last one where the run ends so. The answers
-  -- are written, each before the next message was sent.
+  -- These messages were due; each was sent once and answered, in order, but for a last one where the run ends so. The
+  -- answers are written, each before the next message was sent.
   pub record Talks (old new : State N L) (before after : SinkSeen) (messages : List Message) (ending : Ending) : Type 0 where
     pub said : Said
     pub answered : List Exchange
@@ -60,7 +61,8 @@ module _ (Talks : List Message → Ending → Type 0) where
 
   -- the run ends at a step: at its message, or since no memory was found for that
   abbrev pub StopsAtStep : Step → Ending → Type 0
-  StopsAtStep asked ending = (IsStop ending × Talks (messages_of (asked ∷ [])) ending) ⊎ ((ending ≡ Memory) × Talks [] ending)
+  StopsAtStep asked ending = (IsStop ending × Talks (messages_of (asked ∷ [])) ending)
+      ⊎ ((ending ≡ Memory) × Talks [] ending)
 
   abbrev pub SendsStep : Step → Result (Unit {0}) Ending → Type 0
   SendsStep asked (Ok value) = Talks (messages_of (asked ∷ [])) Done

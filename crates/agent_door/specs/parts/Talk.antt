@@ -1,14 +1,15 @@
 -- How the serving of an agent stands between two calls.
-use Rattle.std.specs.Prelude.{◌≡◌, ◌≤◌, ◌<◌, ℕ, suc, Bool, true, false, List, [], ◌∷◌, ◌++◌, length, Option, Some, None, Result, Ok, Err}
+use Rattle.std.specs.Prelude.{◌≡◌, ◌≤◌, ◌<◌, ℕ, suc, Bool, true, false, List, []}
+use Rattle.std.specs.Prelude.{◌∷◌, ◌++◌, length, Option, Some, None, Result, Ok, Err}
 use Rattle.std.specs.List.{AllByRecursion, flat_map}
 use Rattle.cynara_keys.specs.declared.results.Kind.{Kind}
 use Rattle.link_ports.specs.Traffic.{Traffic}
 use Rattle.link_ports.specs.LinkMarks.{LinkMarks}
 use Rattle.agent_table.specs.declared.refusals.AnswerRefusal.{AnswerRefusal}
 use Rattle.agent_table.specs.declared.table.Asked.{Asked}
-use Rattle.wire_messages.specs.Frame.{spelling}
-use Rattle.wire_messages.specs.Stream.{Feeding}
-use Rattle.wire_messages.specs.declared.messages.Framed.{Framed}
+use Rattle.wire_reading.specs.Frame.{spelling}
+use Rattle.wire_reading.specs.Stream.{Feeding}
+use Rattle.wire_fields.specs.declared.messages.Framed.{Framed}
 use Rattle.server_hall.specs.Tally.{Tally, after_call, after_calls}
 use Rattle.server_hall.specs.Told.{AppendsCalls}
 use Rattle.server_hall.specs.declared.calls.HallCall.{HallCall}
@@ -41,9 +42,10 @@ abbrev pub AreInVain : Option Waiting → List Turn → Type 0
 AreInVain None turns = turns ≡ []
 AreInVain (Some waiting) turns = AllByRecursion (IsInVain waiting.asked) turns × (length turns ≡ waiting.turns)
 
--- Since the start the agent registered and joined, some rounds were made whole, and this question was asked behind them, if
--- one was.
-pub record Stands (registration : Registration) (start now : AgentSide) (feeder : Feeding) (waiting : Option Waiting) : Type 0 where
+-- Since the start the agent registered and joined, some rounds were made whole, and this question was asked behind
+-- them, if one was.
+pub record Stands (registration : Registration) (start now : AgentSide) (feeder : Feeding) (waiting : Option Waiting) :
+    Type 0 where
   pub received : List ℕ
   pub rounds : List Round
   pub turns : List Turn
@@ -51,7 +53,8 @@ pub record Stands (registration : Registration) (start now : AgentSide) (feeder 
   pub others : AreInVain waiting turns
   pub heard : HasHeard received (register_frame registration ∷ rounds_frames (rounds ++ open_of waiting turns)) feeder
   pub carried : Carried start.traffic now.traffic received
-      (flat_map spelling (registered_frame registration ∷ rounds_told registration.kind (rounds ++ open_of waiting turns)))
+      (flat_map spelling (registered_frame registration
+      ∷ rounds_told registration.kind (rounds ++ open_of waiting turns)))
   pub tally : now.tally ≡ after_calls (joined_calls registration.kind (rounds ++ open_of waiting turns) []) start.tally
   pub calls : AppendsCalls start.calls (joined_calls registration.kind (rounds ++ open_of waiting turns) []) now.calls
   pub faults : start.faults ≤ now.faults
@@ -60,7 +63,8 @@ pub record Stands (registration : Registration) (start now : AgentSide) (feeder 
 -- from whatever start it stood so before, it stands so after
 abbrev pub Goes : Registration → AgentSide → Feeding → Option Waiting → AgentSide → Feeding → Option Waiting → Type 0
 Goes registration old feeder waiting new feeder_after waiting_after =
-    (start : AgentSide) → Stands registration start old feeder waiting → Stands registration start new feeder_after waiting_after
+    (start : AgentSide) → Stands registration start old feeder waiting
+    → Stands registration start new feeder_after waiting_after
 
 -- from whatever start it stood so before, the serving has ended so
 abbrev pub Ends : Registration → AgentSide → Feeding → Option Waiting → AgentSide → Ended → Type 0
@@ -102,13 +106,16 @@ pub record LooksIn (number : ℕ) (is_open : Bool) (tally : Tally) (calls : Opti
 -- ---- parts of a round
 
 -- Why no answer comes: no frame comes, or one that is not known where it stands.
-pub data EndsHearing (old new : Feeding) (before after : Option Traffic) (marks : LinkMarks) (faults faults_now : ℕ) (ended : Ended) :
+pub data EndsHearing (old new : Feeding) (before after : Option Traffic) (marks : LinkMarks) (faults faults_now : ℕ)
+    (ended : Ended) :
     Type 0 where
   unheard : (bytes : List ℕ) (between : ℕ) → Carried before after bytes [] → HearsMore bytes old new → new.waiting ≡ []
       → new.heard ≡ old.heard → faults ≤ between
       → EndsReading ended new marks between faults_now → EndsHearing old new before after marks faults faults_now ended
-  misplaced : (bytes : List ℕ) (framed : Framed) → Carried before after bytes [] → HandsOut bytes framed old new → new.heard ≡ old.heard
-      → IsOutOfPlace 0x20 framed ended → faults ≤ faults_now → EndsHearing old new before after marks faults faults_now ended
+  misplaced : (bytes : List ℕ) (framed : Framed) → Carried before after bytes [] → HandsOut bytes framed old new
+      → new.heard ≡ old.heard
+      → IsOutOfPlace 0x20 framed ended → faults ≤ faults_now
+      → EndsHearing old new before after marks faults faults_now ended
 
 -- one call of `answer` was made for the answer, and no other call
 pub record HandsIn (kind : Kind) (answer : Answer) (outcome : Result (Unit {0}) AnswerRefusal) (tally : Tally)

@@ -4,9 +4,9 @@ use Rattle.std.specs.List.{flat_map}
 use Rattle.desk_ports.specs.Faults.{next_count}
 use Rattle.desk_ports.specs.Content.{Appended, AppendedPart}
 use Rattle.cynara_keys.specs.declared.results.Kind.{Kind}
-use Rattle.wire_messages.specs.declared.messages.Framed.{Framed}
-use Rattle.wire_messages.specs.declared.operations.Heard.TheVariants.{AgentReplies}
-use Rattle.wire_messages.specs.Stream.{Hears}
+use Rattle.wire_fields.specs.declared.messages.Framed.{Framed}
+use Rattle.wire_fields.specs.declared.operations.Heard.TheVariants.{AgentReplies}
+use Rattle.wire_reading.specs.Stream.{Hears}
 use Rattle.run_endings.specs.Outside.{SinkSeen}
 use Rattle.run_endings.specs.declared.endings.Ending.{Ending}
 use Rattle.run_endings.specs.declared.endings.Ending.TheVariants.{Done, Memory, Sink, Net, Reply}

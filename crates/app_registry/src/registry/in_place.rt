@@ -10,9 +10,9 @@ use crate::look_ups::{has_install, of_package};
 use crate::{Ident, Install, Registry, Scope};
 
 impl Registry {
-    /// Installs in this registry, where the application is not installed for the scope, nothing stands against the install, and
-    /// there is memory. Says whether it did. Where it did not nothing has changed, and `install` makes the changed registry, or
-    /// says why not. `uninstall_in_place` takes the install back.
+    /// Installs in this registry, where the application is not installed for the scope, nothing stands against the
+    /// install, and there is memory. Says whether it did. Where it did not nothing has changed, and `install` makes the
+    /// changed registry, or says why not. `uninstall_in_place` takes the install back.
     pub fn install_in_place(&mut self, install: &Install) -> bool
         ensures registry { IsTrue result → self.new ≡ with_install self.old install.now }
         ensures accepted { IsTrue result → install_fault self.old install.now ≡ None }

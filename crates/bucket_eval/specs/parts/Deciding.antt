@@ -1,5 +1,6 @@
 -- What is known of the buckets' answers while a question is answered by sheets.
-use Rattle.std.specs.Prelude.{◌≡◌, ◌≤◌, ℕ, Bool, true, ◌==◌, ◌||◌, List, length, Option, None, Some, is_some, slice_get, if◌then◌else◌}
+use Rattle.std.specs.Prelude.{◌≡◌, ◌≤◌, ℕ, Bool, true, ◌==◌, ◌||◌, List}
+use Rattle.std.specs.Prelude.{length, Option, None, Some, is_some, slice_get, if◌then◌else◌}
 use Rattle.std.specs.Prelude.{option_and_then}
 use Rattle.std.specs.Ordering.{is_gt}
 use Rattle.std.specs.List.{filter_map}
@@ -108,7 +109,8 @@ FitsIn asking at shape filed =
 -- ---- contributions
 
 -- this is a contribution, of the policy at the place
-pub record IsWeighed (buckets : List Bucket) (policies : List Policy) (made : Contribution) (weighed : Weighed) : Type 0 where
+pub record IsWeighed (buckets : List Bucket) (policies : List Policy) (made : Contribution) (weighed : Weighed) :
+    Type 0 where
   pub known : IsKnown buckets made.outcome weighed.known
   pub policy : Policy
   pub there : slice_get policies weighed.place ≡ Some policy

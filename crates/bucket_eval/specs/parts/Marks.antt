@@ -1,5 +1,6 @@
 -- The numbers of a question's names, and the marks that a question seeks.
-use Rattle.std.specs.Prelude.{◌≡◌, ◌<◌, ◌%◌, ◌==◌, ℕ, nat_le, if◌then◌else◌, List, length, Option, Some, IfSome, slice_get}
+use Rattle.std.specs.Prelude.{◌≡◌, ◌<◌, ◌%◌, ◌==◌, ℕ, nat_le, if◌then◌else◌}
+use Rattle.std.specs.Prelude.{List, length, Option, Some, IfSome, slice_get}
 use Rattle.cynara_keys.specs.Field.{wildcard}
 use Rattle.cynara_keys.specs.Key.{Question}
 use Rattle.bucket_eval.specs.declared.numbers.Numbers.{Numbers}

@@ -1,5 +1,6 @@
 -- The numbers of names, and of the three texts of a key as one number.
-use Rattle.std.specs.Prelude.{◌≡◌, ◌+◌, ◌*◌, ◌<◌, ℕ, nat_lt, if◌then◌else◌, true, List, slice_get, Option, None, Some, is_some}
+use Rattle.std.specs.Prelude.{◌≡◌, ◌+◌, ◌*◌, ◌<◌, ℕ, nat_lt, if◌then◌else◌}
+use Rattle.std.specs.Prelude.{true, List, slice_get, Option, None, Some, is_some}
 use Rattle.std.specs.Prelude.{option_and_then}
 use Rattle.std.specs.List.{position}
 use Rattle.std.specs.Option.{option_map}
@@ -18,7 +19,8 @@ number_of names text = option_and_then if_small (position (same_text text) names
 
 -- what has a number keeps it
 abbrev pub KeepsNumbers : List (List ℕ) → List (List ℕ) → Type 0
-KeepsNumbers old new = (text : List ℕ) (number : ℕ) → number_of old text ≡ Some number → number_of new text ≡ Some number
+KeepsNumbers old new = (text : List ℕ) (number : ℕ) → number_of old text ≡ Some number
+    → number_of new text ≡ Some number
 
 -- three numbers as one
 abbrev pub joined : ℕ → ℕ → ℕ → ℕ

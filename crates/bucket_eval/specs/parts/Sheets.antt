@@ -1,5 +1,6 @@
 -- What a sheet says of the policies of a bucket.
-use Rattle.std.specs.Prelude.{◌≡◌, ◌<◌, ◌≤◌, ◌==◌, ℕ, nat_eq, Bool, true, false, not, if◌then◌else◌, List, length, Option, None, Some, slice_get}
+use Rattle.std.specs.Prelude.{◌≡◌, ◌<◌, ◌≤◌, ◌==◌, ℕ, nat_eq, Bool, true, false}
+use Rattle.std.specs.Prelude.{not, if◌then◌else◌, List, length, Option, None, Some, slice_get}
 use Rattle.std.specs.HashMap.{get}
 use Rattle.std.specs.Option.{option_map}
 use Rattle.cynara_keys.specs.declared.keys.Policy.{Policy}

@@ -20,7 +20,8 @@ name_at buckets at = (bucket_at buckets at).name
 -- the place of the bucket that the result sends on to, if it sends on to one
 abbrev pub link_place : List Bucket → Ruling → Option ℕ
 link_place buckets ruling =
-    if ruling.kind == bucket then position (λ (bucket : Bucket). same_text bucket.name ruling.metadata) buckets else None
+    if ruling.kind == bucket then position (λ (bucket : Bucket). same_text bucket.name ruling.metadata) buckets
+    else None
 
 -- no walk from the bucket leads to one on a cycle
 abbrev pub Ends : List Placed → List ℕ → Type 0

@@ -1,6 +1,7 @@
 -- The numbers of the texts of a bucket's keys: 0 for the wildcard, and for a name one more than its place in a list of
 -- names.
-use Rattle.std.specs.Prelude.{◌≡◌, ◌≤◌, ℕ, ◌+◌, Bool, true, ◌||◌, if◌then◌else◌, List, ◌++◌, length, Option, Some, None, position}
+use Rattle.std.specs.Prelude.{◌≡◌, ◌≤◌, ℕ, ◌+◌, Bool, true, ◌||◌, if◌then◌else◌}
+use Rattle.std.specs.Prelude.{List, ◌++◌, length, Option, Some, None, position}
 use Rattle.std.specs.List.{list_any, position_or_len}
 use Rattle.std.specs.Option.{option_map}
 use Rattle.lane_scan.specs.Rows.{Row}

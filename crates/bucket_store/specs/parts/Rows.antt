@@ -1,5 +1,6 @@
 -- The policies of some rows, and those besides.
-use Rattle.std.specs.Prelude.{◌≡◌, ◌≤◌, ℕ, ◌+◌, ◌==◌, Bool, false, if◌then◌else◌, List, [], ◌∷◌, ◌++◌, length, slice_get}
+use Rattle.std.specs.Prelude.{◌≡◌, ◌≤◌, ℕ, ◌+◌, ◌==◌, Bool, false}
+use Rattle.std.specs.Prelude.{if◌then◌else◌, List, [], ◌∷◌, ◌++◌, length, slice_get}
 use Rattle.std.specs.List.{flat_map}
 use Rattle.std.specs.Option.{option_to_list}
 use Rattle.lane_scan.specs.Rows.{Row}
@@ -20,7 +21,8 @@ besides first (place ∷ places) (policy ∷ policies) =
     else policy ∷ besides (first + 1) (place ∷ places) policies
 
 -- a row of the policy's numbers was put behind the others, and at most three names behind the others
-pub record PushedRow (old_names new_names : List (List ℕ)) (asked : Filter) (policy : Policy) (old new : List Row) : Type 0 where
+pub record PushedRow (old_names new_names : List (List ℕ)) (asked : Filter) (policy : Policy) (old new : List Row) :
+    Type 0 where
   pub row : Row
   pub is_row : IsRow new_names asked policy row
   pub pushed : new ≡ old ++ row ∷ []

@@ -2,7 +2,7 @@
 use Rattle.std.specs.Prelude.{◌≡◌, ℕ, Bool, true, List, Option, Result, Ok, Err}
 use Rattle.link_ports.specs.Traffic.{Traffic}
 use Rattle.link_ports.specs.LinkMarks.{LinkMarks}
-use Rattle.wire_messages.specs.declared.messages.Framed.{Framed}
+use Rattle.wire_fields.specs.declared.messages.Framed.{Framed}
 use Rattle.desk_ports.specs.Faults.{next_count}
 use Rattle.client_connection.specs.Exchange.{Exchanges}
 use Rattle.client_connection.specs.Giving.{GivesBack}

@@ -3,7 +3,7 @@ use Rattle.std.specs.Prelude.{◌≡◌, ◌<◌, ℕ, List, [], ◌∷◌, ◌+
 use Rattle.link_ports.specs.Told.{IfTold}
 use Rattle.link_ports.specs.Traffic.{Traffic, with_received}
 use Rattle.link_ports.specs.LinkMarks.{LinkMarks}
-use Rattle.wire_messages.specs.Stream.{Feeding, Hears, IsOpen}
+use Rattle.wire_reading.specs.Stream.{Feeding, Hears, IsOpen}
 use Rattle.client_connection.specs.Reading.{IsTrouble, IsWrong}
 use Rattle.client_connection.specs.declared.reading.Piece.{Piece}
 use Rattle.client_connection.specs.declared.reading.Piece.TheVariants as piece

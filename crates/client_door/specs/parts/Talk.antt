@@ -8,9 +8,9 @@ use Rattle.live_desk.specs.History.{GoesOn, IsLast, Rises}
 use Rattle.live_desk.specs.Seat.{SeatState}
 use Rattle.desk_state.specs.DeskState.{DeskState}
 use Rattle.door_frames.specs.declared.endings.Ended.{Ended}
-use Rattle.wire_messages.specs.Stream.{Feeding, Hears}
-use Rattle.wire_messages.specs.declared.messages.Framed.{Framed}
-use Rattle.wire_messages.specs.declared.operations.Heard.TheVariants.{AtClient}
+use Rattle.wire_reading.specs.Stream.{Feeding, Hears}
+use Rattle.wire_fields.specs.declared.messages.Framed.{Framed}
+use Rattle.wire_fields.specs.declared.operations.Heard.TheVariants.{AtClient}
 use Rattle.server_hall.specs.Told.{AppendsCalls}
 use Rattle.server_hall.specs.declared.calls.HallCall.TheVariants.{Ask}
 use Rattle.door_frames.specs.Carried.{Carried}

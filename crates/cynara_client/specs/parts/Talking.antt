@@ -2,8 +2,8 @@
 use Rattle.std.specs.Prelude.{◌≡◌, ◌<◌, ℕ, true, List, ◌++◌, length, Option, Some, Result}
 use Rattle.link_ports.specs.Told.{IfTold}
 use Rattle.link_ports.specs.Traffic.{Traffic, with_received}
-use Rattle.wire_messages.specs.Stream.{IsOpen}
-use Rattle.wire_messages.specs.declared.messages.Framed.{Framed}
+use Rattle.wire_reading.specs.Stream.{IsOpen}
+use Rattle.wire_fields.specs.declared.messages.Framed.{Framed}
 use Rattle.client_connection.specs.Reading.{IsRead}
 use Rattle.client_connection.specs.Coming.{Comes}
 use Rattle.client_connection.specs.declared.faults.Broken.{Broken}

@@ -2,7 +2,7 @@
 use Rattle.std.specs.Prelude.{◌≡◌, ℕ, ◌-◌, nat_le, Bool, true, false, List, Option, Some, None, Result}
 use Rattle.link_ports.specs.Traffic.{Traffic}
 use Rattle.link_ports.specs.LinkMarks.{LinkMarks}
-use Rattle.wire_messages.specs.declared.messages.Framed.{Framed}
+use Rattle.wire_fields.specs.declared.messages.Framed.{Framed}
 use Rattle.client_connection.specs.Giving.{GivesBack}
 use Rattle.client_connection.specs.Asking.{Asks}
 use Rattle.client_connection.specs.parts.Over.{GoesOver}

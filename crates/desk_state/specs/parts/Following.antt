@@ -1,5 +1,6 @@
 -- The changes of `MAIN` and `MANIFESTS` by which they follow a change of the registry.
-use Rattle.std.specs.Prelude.{ℕ, Bool, true, false, if◌then◌else◌, List, [], ◌∷◌, ◌++◌, map, filter, decimal, Option, Some, None}
+use Rattle.std.specs.Prelude.{ℕ, Bool, true, false, if◌then◌else◌, List, [], ◌∷◌}
+use Rattle.std.specs.Prelude.{◌++◌, map, filter, decimal, Option, Some, None}
 use Rattle.cynara_keys.specs.PolicyResult.{bucket, allow}
 use Rattle.cynara_keys.specs.declared.fields.Field.TheVariants.{Any, Exact}
 use Rattle.cynara_keys.specs.Key.{Key}

@@ -16,7 +16,10 @@ use Rattle.desk_state.specs.Layout.{headings, main, manifests, admin, type_bucke
 -- the database with the seven buckets
 abbrev pub with_headings : Database → Database
 with_headings database =
-    record { buckets = fold (λ buckets heading. put heading_cmp heading buckets) database.buckets headings; policies = database.policies }
+    record {
+      buckets = fold (λ buckets heading. put heading_cmp heading buckets) database.buckets headings;
+      policies = database.policies;
+    }
 
 -- the key of all questions
 abbrev pub all_key : Key
@@ -28,7 +31,8 @@ set_link from target = Set from all_key (record { kind = bucket; metadata = targ
 
 abbrev pub link_changes : List Change
 link_changes =
-    set_link root main ∷ set_link main manifests ∷ set_link (type_bucket System) admin ∷ set_link (type_bucket Admin) admin
+    set_link root main ∷ set_link main manifests ∷ set_link (type_bucket System) admin
+    ∷ set_link (type_bucket Admin) admin
     ∷ set_link (type_bucket Normal) admin ∷ set_link (type_bucket Guest) admin ∷ []
 
 -- nothing but want of memory

@@ -19,7 +19,9 @@ use Rattle.desk_state.specs.declared.commands.Command.{Command}
 use Rattle.desk_state.specs.declared.desks.Applied.{Applied}
 use Rattle.desk_state.specs.Limits.{last_commit}
 use Rattle.desk_state.specs.declared.refusals.Refusal.{Refusal}
-use Rattle.desk_state.specs.declared.refusals.Refusal.TheVariants.{NoBucket, RootBucket, BadKind, UnknownUser, OtherPackage, OtherAuthor, OtherHybrid, NotInstalled, Limit, Cycle, Memory}
+use Rattle.desk_state.specs.declared.refusals.Refusal.TheVariants.{NoBucket, RootBucket, BadKind, UnknownUser}
+use Rattle.desk_state.specs.declared.refusals.Refusal.TheVariants.{OtherPackage, OtherAuthor, OtherHybrid, NotInstalled}
+use Rattle.desk_state.specs.declared.refusals.Refusal.TheVariants.{Limit, Cycle, Memory}
 
 -- the desk after the next command, with these parts
 abbrev pub moved : DeskState → Database → RegistryLists → List TemplateLine → DeskState
@@ -91,7 +93,8 @@ Answers desk command (Err refusal) = Refuses desk command refusal
 abbrev pub settled_fault : DeskState → RegistryLists → Option Refusal
 settled_fault desk registry =
     let next = settled registry desk.database in
-    first_of (commit_limit desk.commit ∷ option_map of_store (store.limit next) ∷ option_map of_store (store.cycle next) ∷ [])
+    first_of (commit_limit desk.commit ∷ option_map of_store (store.limit next) ∷ option_map of_store (store.cycle next)
+    ∷ [])
 
 pub record IsSettled (desk : DeskState) (registry : RegistryLists) (applied : Applied) : Type 0 where
   pub next : applied.desk ≡ moved desk (settled registry desk.database) registry desk.template

@@ -51,8 +51,8 @@ impl<R: Files<File = File> + Clock + AllocGlobal + Clone + Drop> FolderDisk<R> {
         Ok(())
     }
 
-    // A file that stays as it is may stay so for long: what its bytes come to is reckoned once. Of one that changes each
-    // time it never is.
+    // A file that stays as it is may stay so for long: what its bytes come to is reckoned once. Of one that changes
+    // each time it never is.
     fn note_unchanged(&mut self, name: &FileName, known: Known, bytes: &[u8])
         requires settled { self.old.is_settled ≡ true }
         ensures count { self.new.faults ≡ self.old.faults }
@@ -93,8 +93,8 @@ impl<R: Files<File = File> + Clock + AllocGlobal + Clone + Drop> FolderDisk<R> {
         }
     }
 
-    // Makes the path that is set one more name of its partner, where that has these bytes. What is known of that, where it
-    // is done.
+    // Makes the path that is set one more name of its partner, where that has these bytes. What is known of that, where
+    // it is done.
     fn link_partner(&mut self, name: &FileName, bytes: &[u8]) -> Option<Known>
         requires held { IsHeld self.old.held }
         requires settled { self.old.is_settled ≡ true }

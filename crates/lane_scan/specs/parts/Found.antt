@@ -11,4 +11,5 @@ pub record IsLonger (old new : List ℕ) : Type 0 where
 -- the numbers of the set bits follow, where the first bit has this number
 abbrev pub HasMarked : ℕ → ℕ → List ℕ → List ℕ → Type 0
 HasMarked marks first old new =
-    (tests : List Bool) → marks ≡ mask_l tests → length tests ≤ 64 → new ≡ old ++ numbers_from first (λ test. test) tests
+    (tests : List Bool) → marks ≡ mask_l tests → length tests ≤ 64
+    → new ≡ old ++ numbers_from first (λ test. test) tests

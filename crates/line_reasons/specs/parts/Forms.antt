@@ -1,5 +1,6 @@
 -- The forms of words: which words have a form, and what such a word can begin with.
-use Rattle.std.specs.Prelude.{ℕ, Bool, true, false, not, ◌&&◌, ◌||◌, nat_lt, nat_le, ◌==◌, if◌then◌else◌, List, [], ◌∷◌, length, Option, Some, None, is_some, codes}
+use Rattle.std.specs.Prelude.{ℕ, Bool, true, false, not, ◌&&◌, ◌||◌, nat_lt, nat_le, ◌==◌, if◌then◌else◌, List, [], ◌∷◌}
+use Rattle.std.specs.Prelude.{length, Option, Some, None, is_some, codes}
 use Rattle.cynara_keys.specs.Text.{same_text, is_visible, is_word_byte}
 use Rattle.cynara_keys.specs.Metadata.{is_metadata}
 use Rattle.cynara_keys.specs.PolicyResult.{is_agent, last_agent}
@@ -15,10 +16,14 @@ use Rattle.app_registry.specs.Ident.{is_ident_byte, begins_with_mark}
 use Rattle.rule_templates.specs.Placeholder.{begins_with_tilde}
 use Rattle.rule_templates.specs.TemplateLine.{word_of}
 use Rattle.level_requests.specs.Level.{level_at}
-use Rattle.line_script.specs.Numbers.{number_that}
-use Rattle.line_script.specs.WordForms.{bucket_at, name_at, field_at, filter_field_at, depth_at, result_at, uid_at, user_type_at, scope_at, package_kind_at, setter_named, ident_at, author_at, label_at, request_at}
+use Rattle.script_words.specs.Numbers.{number_that}
+use Rattle.script_words.specs.WordForms.{bucket_at, name_at, field_at, filter_field_at, depth_at, result_at, uid_at}
+use Rattle.script_words.specs.WordForms.{user_type_at, scope_at, package_kind_at, setter_named, ident_at, author_at}
+use Rattle.script_words.specs.WordForms.{label_at, request_at}
 use Rattle.line_reasons.specs.declared.forms.Form.{Form}
-use Rattle.line_reasons.specs.declared.forms.Form.TheVariants.{Bucket, Field, Name, Names, FilterField, Depth, Result, Uid, UserType, Scope, PackageKind, Setter, Level, Ident, Author, Label, Request, TemplateLabel, Modes, MoreModes}
+use Rattle.line_reasons.specs.declared.forms.Form.TheVariants.{Bucket, Field, Name, Names, FilterField, Depth, Result}
+use Rattle.line_reasons.specs.declared.forms.Form.TheVariants.{Uid, UserType, Scope, PackageKind, Setter, Level, Ident}
+use Rattle.line_reasons.specs.declared.forms.Form.TheVariants.{Author, Label, Request, TemplateLabel, Modes, MoreModes}
 use Rattle.line_reasons.specs.parts.Texts.{begins, begins_one, is_behind, begins_behind, is_run, cut_at, by_cut}
 
 -- ---- which words have a form

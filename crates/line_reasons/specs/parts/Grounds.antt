@@ -4,14 +4,16 @@ use Rattle.std.specs.List.{list_any, list_all}
 use Rattle.cynara_keys.specs.Text.{same_text}
 use Rattle.smack_rules.specs.Words.{is_blank}
 use Rattle.line_script.specs.Grammar.{is_skipped}
-use Rattle.line_script.specs.Verbs.{verb_text, verbs, verb_at, is_known_in}
-use Rattle.line_script.specs.declared.places.Place.{Place}
-use Rattle.line_script.specs.declared.verbs.Verb.{Verb}
-use Rattle.line_script.specs.declared.verbs.Verb.TheVariants as verb
+use Rattle.script_words.specs.Verbs.{verb_text, verbs, verb_at, is_known_in}
+use Rattle.script_words.specs.declared.places.Place.{Place}
+use Rattle.script_words.specs.declared.verbs.Verb.{Verb}
+use Rattle.script_words.specs.declared.verbs.Verb.TheVariants as verb
 use Rattle.line_script.specs.declared.spots.Spot.{Spot}
 use Rattle.line_script.specs.declared.spots.Spot.TheVariants as spot
 use Rattle.line_reasons.specs.declared.forms.Form.{Form}
-use Rattle.line_reasons.specs.declared.forms.Form.TheVariants.{Bucket, Field, Name, Names, FilterField, Depth, Result, Uid, UserType, Scope, PackageKind, Setter, Level, Ident, Author, Label, Request, TemplateLabel, Modes, MoreModes}
+use Rattle.line_reasons.specs.declared.forms.Form.TheVariants.{Bucket, Field, Name, Names, FilterField, Depth, Result}
+use Rattle.line_reasons.specs.declared.forms.Form.TheVariants.{Uid, UserType, Scope, PackageKind, Setter, Level, Ident}
+use Rattle.line_reasons.specs.declared.forms.Form.TheVariants.{Author, Label, Request, TemplateLabel, Modes, MoreModes}
 use Rattle.line_reasons.specs.declared.grounds.Ground.{Ground}
 use Rattle.line_reasons.specs.declared.grounds.Ground.TheVariants.{Outside, Batch, Template, Rules}
 use Rattle.line_reasons.specs.parts.Texts.{begins, cut_at, by_cut}
@@ -141,7 +143,8 @@ begins_line (Outside place) front =
     is_skipped front
     || (begins front (codes "batch") || (begins front (codes "template") || begins_verb_line (Some place) front))
 begins_line Batch front = is_skipped front || (begins front (codes "end") || begins_verb_line None front)
-begins_line (Template is_full) front = begins front (codes "end") || (not is_full && begins_line_of true template_forms front)
+begins_line (Template is_full) front = begins front (codes "end") ||
+    (not is_full && begins_line_of true template_forms front)
 begins_line Rules front = begins_line_of true rule_forms front
 
 -- where a line of a script stands

@@ -1,5 +1,6 @@
 -- The first fault of a line, in the words of this crate's tests.
-use Rattle.std.specs.Prelude.{◌≡◌, ◌+◌, ◌<◌, ◌≤◌, ℕ, true, false, List, length, take, Option, Some, None, Result, Ok, Err}
+use Rattle.std.specs.Prelude.{◌≡◌, ◌+◌, ◌<◌, ◌≤◌, ℕ, true, false, List, length, take, Option, Some, None, Result, Ok}
+use Rattle.std.specs.Prelude.{Err}
 use Rattle.line_reasons.specs.declared.grounds.Ground.{Ground}
 use Rattle.line_reasons.specs.declared.faults.LineFault.{LineFault}
 use Rattle.line_reasons.specs.parts.Grounds.{is_line, begins_line}

@@ -1,5 +1,6 @@
 -- How far the forms of a line go along its bytes.
-use Rattle.std.specs.Prelude.{ℕ, Bool, true, false, ◌||◌, ◌==◌, if◌then◌else◌, List, [], ◌∷◌, ◌++◌, Option, Some, None, option_and_then}
+use Rattle.std.specs.Prelude.{ℕ, Bool, true, false, ◌||◌, ◌==◌, if◌then◌else◌, List, [], ◌∷◌, ◌++◌, Option, Some, None}
+use Rattle.std.specs.Prelude.{option_and_then}
 use Rattle.line_reasons.specs.declared.forms.Form.{Form}
 use Rattle.line_reasons.specs.parts.Forms.{is_word, begins_word, may_lack, repeats, leaves_out}
 

@@ -1,6 +1,6 @@
 -- What a reader keeps.
 use Rattle.line_script.specs.Block.{Block, outside, batch, template, failed}
-use Rattle.line_script.specs.declared.places.Place.{Place}
+use Rattle.script_words.specs.declared.places.Place.{Place}
 use Rattle.line_script.specs.declared.progress.Progress.{Progress}
 use Rattle.line_script.specs.declared.progress.Progress.TheVariants.{Outside, Batch, Template, Failed}
 

@@ -2,17 +2,19 @@
 use Rattle.std.specs.Prelude.{◌≡◌, ◌+◌, ◌⊎◌, ℕ, Bool, true, false, List, [], ◌++◌, Option, Some, None, Result, Ok, Err}
 use Rattle.desk_ports.specs.Faults.{next_count}
 use Rattle.desk_ports.specs.Content.{Appended, AppendedPart}
-use Rattle.text_lines.specs.LineReader.{LineReading, HandsOut, Keeps, Ends, EndsReading, GoesPast, IsUnfinished, has_line}
+use Rattle.text_lines.specs.LineReader.{LineReading, HandsOut, Keeps, Ends, EndsReading, GoesPast, IsUnfinished}
+use Rattle.text_lines.specs.LineReader.{has_line}
 use Rattle.desk_state.specs.DeskState.{DeskState}
 use Rattle.desk_state.specs.Rules.{fault}
 use Rattle.desk_state.specs.declared.commands.Command.{Command}
 use Rattle.line_script.specs.Block.{Block}
 use Rattle.line_script.specs.Grammar.{step_at}
 use Rattle.line_script.specs.declared.steps.Step.{Step}
-use Rattle.line_script.specs.declared.steps.Step.TheVariants.{Nothing, Command as CommandStep, Level, Share as ShareStep, Unshare}
+use Rattle.line_script.specs.declared.steps.Step.TheVariants.{Nothing, Command as CommandStep, Level}
+use Rattle.line_script.specs.declared.steps.Step.TheVariants.{Share as ShareStep, Unshare}
 use Rattle.private_sharing.specs.declared.shares.Share.{Share}
 use Rattle.script_replies.specs.Reply.{reply, after, shares_after, command_in}
-use Rattle.script_reading.specs.Reading.{Gives}
+use Rattle.script_replies.specs.Reading.{Gives}
 use Rattle.run_endings.specs.declared.endings.Ending.{Ending}
 use Rattle.run_endings.specs.declared.endings.Ending.TheVariants.{Memory, Line, Source, Sink, Disk}
 use Rattle.local_runs.specs.declared.local_script.LocalScript.{LocalScript}
@@ -43,7 +45,8 @@ pub record IsSameScript (old new : LocalScript) : Type 0 where
 
 -- the answers that waited are taken, or a part of them where the sink failed
 abbrev pub Flushes : Option (List ℕ) → Option (List ℕ) → LocalScript → LocalScript → Result (Unit {0}) Ending → Type 0
-Flushes taken taken_after old new (Ok value) = Appended taken old.answers taken_after × (new.answers ≡ []) × IsSameScript old new
+Flushes taken taken_after old new (Ok value) = Appended taken old.answers taken_after × (new.answers ≡ [])
+    × IsSameScript old new
 Flushes taken taken_after old new (Err Sink) = AppendedPart taken old.answers taken_after × IsSameScript old new
 Flushes taken taken_after old new (Err ending) = ⊥
 
@@ -53,12 +56,15 @@ pub record Hands (taken taken_after : Option (List ℕ)) (answers waiting : List
   pub appended : Appended taken handed taken_after
   pub parts : answers ≡ handed ++ waiting
 
--- The answers that waited are taken, unless a whole line waits to be answered; or a part of them, where the sink failed.
+-- The answers that waited are taken, unless a whole line waits to be answered; or a part of them, where the sink
+-- failed.
 abbrev pub HandsOver : Option (List ℕ) → Option (List ℕ) → LocalScript → LocalScript → LineReading
     → Result (Unit {0}) Ending → Type 0
 HandsOver taken taken_after old new reading (Ok value) =
-    Hands taken taken_after old.answers new.answers × (has_line reading ≡ false → new.answers ≡ []) × IsSameScript old new
-HandsOver taken taken_after old new reading (Err Sink) = AppendedPart taken old.answers taken_after × IsSameScript old new
+    Hands taken taken_after old.answers new.answers × (has_line reading ≡ false → new.answers ≡ [])
+    × IsSameScript old new
+HandsOver taken taken_after old new reading (Err Sink) = AppendedPart taken old.answers taken_after
+    × IsSameScript old new
 HandsOver taken taken_after old new reading (Err ending) = ⊥
 
 module _ (taken taken_after : Option (List ℕ)) (answers answers_after : List ℕ) (desk desk_after : DeskState) where

@@ -5,8 +5,8 @@ use Rattle.text_lines.specs.LineReader.{LineReading}
 use Rattle.line_script.specs.declared.steps.Step.{Step}
 use Rattle.desk_state.specs.DeskState.{DeskState}
 use Rattle.script_replies.specs.Script.{replies, state_after, shares_behind, AreInTurn}
-use Rattle.script_reading.specs.Reading.{Goes}
-use Rattle.line_script.specs.declared.places.Place.TheVariants.{Local}
+use Rattle.script_replies.specs.Reading.{Goes}
+use Rattle.script_words.specs.declared.places.Place.TheVariants.{Local}
 use Rattle.run_endings.specs.Outside.{HadInput}
 use Rattle.run_endings.specs.Saying.{IsCut}
 use Rattle.local_runs.specs.LocalRun.{HasRead, AreAnswered}
@@ -25,7 +25,8 @@ module _ (start : DeskState) (taken taken_now : Option (List ℕ)) (now : LocalS
     pub in_turn : AreInTurn start steps written
 
 -- the script is read so far, and its steps are answered, with what they keep: of the folder, say
-abbrev pub GoesOn : (List Step → Type 0) → DeskState → Option (List ℕ) → Option (List ℕ) → Option (List ℕ) → Option (List ℕ)
+abbrev pub GoesOn : (List Step → Type 0) → DeskState → Option (List ℕ) → Option (List ℕ) → Option (List ℕ)
+    → Option (List ℕ)
     → LocalScript → DeskState → LineReading → Type 0
 GoesOn Kept start left left_now taken taken_now now desk reading =
     Goes Local left left_now now.reader reading (λ steps. Progress start taken taken_now now desk steps × Kept steps)
@@ -43,7 +44,8 @@ AreHanded Sink answers written waiting = IsCut written answers
 AreHanded ending answers written waiting = answers ≡ written ++ waiting
 
 -- a script is read and answered as this ending says, but for the answers that wait
-pub record Answers (start : DeskState) (ending : Ending) (waiting : List ℕ) (left left_after taken taken_after : Option (List ℕ))
+pub record Answers (start : DeskState) (ending : Ending) (waiting : List ℕ)
+    (left left_after taken taken_after : Option (List ℕ))
     : Type 0 where
   pub input : List ℕ
   pub rest : List ℕ

@@ -9,10 +9,9 @@ ghost use Rattle.local_runs.specs.parts.Local.{is_question};
 use crate::local_script::LocalScript;
 use cynara_keys::BorrowedQuestion;
 use desk_state::Desk;
-use line_script::{LineAnswer, Step, print};
-use script_replies::{
-    print_audit, print_decision, print_from, print_levels, print_list, print_shares,
-};
+use line_answers::{LineAnswer, print, print_decision};
+use line_script::Step;
+use script_replies::{print_audit, print_from, print_levels, print_list, print_shares};
 use std::alloc::AllocError;
 
 impl LocalScript {
@@ -38,7 +37,8 @@ impl LocalScript {
         requires asked { AsksRequest question.now }
         requires question { is_question question.now ≡ true }
         requires folded { AreFolded self.old.rules desk.now self.old.shares }
-        ensures answer { OnOk result (self.new.answers ≡ self.old.answers ++ reply desk.now self.old.shares question.now) }
+        ensures answer { OnOk result (self.new.answers ≡ self.old.answers
+            ++ reply desk.now self.old.shares question.now) }
         ensures err { OnErr result (self.new.answers ≡ self.old.answers) }
         ensures reader { self.new.reader ≡ self.old.reader }
         ensures shares { self.new.shares ≡ self.old.shares }

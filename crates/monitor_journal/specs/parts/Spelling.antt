@@ -16,7 +16,8 @@ Spells GoesOn before text OutOfMemory room = Unit {0}
 Spells writing before text now room = now ≡ writing
 
 -- So many entries at most were handed out, and their lines were to be spelled.
-pub record SpellsEntries (most : ℕ) (reader reader_now : ReaderState) (writing now : Writing) (before room : List ℕ) : Type 0 where
+pub record SpellsEntries (most : ℕ) (reader reader_now : ReaderState) (writing now : Writing) (before room : List ℕ) :
+    Type 0 where
   pub entries : List Entry
   pub few : length entries ≤ most
   pub known : AreKnown reader.made entries

@@ -15,9 +15,11 @@ asked_of sample tally = record { block = sample.reader; tally = tally }
 -- all questions of the script, from where its commands ended
 abbrev pub AsksAll : Sample → ℕ → Result Tally Ending → Type 0
 AsksAll sample count (Ok tally) =
-    option_map (λ asked. asked.tally) (each_line (ask_line sample.desk.database) (questions count) (none_asked sample.reader)) ≡ Some tally
+    option_map (λ asked. asked.tally)
+    (each_line (ask_line sample.desk.database) (questions count) (none_asked sample.reader)) ≡ Some tally
 AsksAll sample count (Err ending) =
-    StopsAt (option_map (λ asked. asked.tally) (each_line (ask_line sample.desk.database) (questions count) (none_asked sample.reader))) ending
+    StopsAt (option_map (λ asked. asked.tally)
+    (each_line (ask_line sample.desk.database) (questions count) (none_asked sample.reader))) ending
 
 -- the answer tells what the script comes to, or the script stops
 abbrev pub Tells : ℕ → Result (List ℕ) Ending → Type 0

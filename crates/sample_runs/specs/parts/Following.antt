@@ -18,4 +18,5 @@ StopsAt next ending = ⊥
 abbrev pub Goes : {S : Type 0} → (List ℕ → S → Option S) → List (List ℕ) → S → S → Result (Unit {0}) Ending → Type 0
 Goes step lines before after (Ok value) =
     (rest : List (List ℕ)) → each_line step (lines ++ rest) before ≡ each_line step rest after
-Goes step lines before after (Err ending) = (rest : List (List ℕ)) → StopsAt (each_line step (lines ++ rest) before) ending
+Goes step lines before after (Err ending) = (rest : List (List ℕ))
+    → StopsAt (each_line step (lines ++ rest) before) ending

@@ -12,10 +12,10 @@ use Rattle.desk_state.specs.DeskState.{DeskState}
 use Rattle.live_desk.specs.History.{GoesOn}
 use Rattle.live_desk.specs.Seat.{SeatState}
 use Rattle.server_hall.specs.StopNews.{StopsTold, unasked}
-use Rattle.door_workers.specs.Visit.{Works, EndsWorking}
-use Rattle.door_workers.specs.Clients.{VisitsClients}
-use Rattle.door_workers.specs.Agents.{VisitsAgents}
-use Rattle.door_workers.specs.declared.workers.WorkerEnd.{WorkerEnd}
+use Rattle.desk_server.specs.Visit.{Works, EndsWorking}
+use Rattle.desk_server.specs.Clients.{VisitsClients}
+use Rattle.desk_server.specs.Agents.{VisitsAgents}
+use Rattle.desk_server.specs.declared.workers.WorkerEnd.{WorkerEnd}
 use Rattle.serve_runs.specs.Crew.{kind_for, is_lacking}
 use Rattle.serve_runs.specs.Serving.{HasRisen}
 use Rattle.serve_runs.specs.declared.crews.Station.{Station}

@@ -14,10 +14,10 @@ use Rattle.desk_keeper.specs.declared.keeper.Keeper.{Keeper}
 use Rattle.server_hall.specs.StopNews.{StopsTold, unasked}
 use Rattle.admin_door.specs.Serving.{Exchange}
 use Rattle.admin_door.specs.Running.{RunsOver}
-use Rattle.door_workers.specs.Visit.{Works}
-use Rattle.door_workers.specs.Administrators.{office_of, VisitsOffice, EndsOffice}
-use Rattle.door_workers.specs.declared.workers.WorkerEnd.{WorkerEnd}
-use Rattle.door_workers.specs.declared.workers.WorkerEnd.TheVariants.{DoorFailed}
+use Rattle.desk_server.specs.Visit.{Works}
+use Rattle.desk_server.specs.Administrators.{office_of, VisitsOffice, EndsOffice}
+use Rattle.desk_server.specs.declared.workers.WorkerEnd.{WorkerEnd}
+use Rattle.desk_server.specs.declared.workers.WorkerEnd.TheVariants.{DoorFailed}
 use Rattle.run_endings.specs.declared.endings.Ending.{Ending}
 use Rattle.run_endings.specs.declared.endings.Ending.TheVariants.{Done, Memory, Disk, Net}
 use Rattle.live_desk.specs.Seat.{SeatState}

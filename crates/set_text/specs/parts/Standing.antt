@@ -1,5 +1,6 @@
 -- Whether an install may stand behind those before it, found without a look at each of them.
-use Rattle.std.specs.Prelude.{◌≡◌, ℕ, Bool, false, true, not, ◌||◌, if◌then◌else◌, List, [], ◌∷◌, length, Option, Some, None, find}
+use Rattle.std.specs.Prelude.{◌≡◌, ℕ, Bool, false, true, not, ◌||◌, if◌then◌else◌}
+use Rattle.std.specs.Prelude.{List, [], ◌∷◌, length, Option, Some, None, find}
 use Rattle.std.specs.BTreeMap.{BTreeMap, get}
 use Rattle.std.specs.Option.{option_map, option_or}
 use Rattle.cynara_keys.specs.Text.{same_text, text_cmp}

@@ -23,7 +23,8 @@ followed_by first later =
       added = union (without first.added later.removed) later.added;
     }
 
--- The change that a rule makes. To set modes is to remove all and to add these. What is allowed and denied at once is out.
+-- The change that a rule makes. To set modes is to remove all and to add these. What is allowed and denied at once is
+-- out.
 abbrev pub change_of : Rule → PairChange
 change_of (Set subject object modes) =
     record {
@@ -40,7 +41,8 @@ change_of (Adjust subject object allow deny) =
 abbrev pub modes_after : List PairChange → List ℕ → List ℕ → Modes → Modes
 modes_after [] s o modes = modes
 modes_after (change ∷ changes) s o modes =
-    modes_after changes s o (if is_pair change.key.subject change.key.object s o then changed change.change modes else modes)
+    modes_after changes s o
+    (if is_pair change.key.subject change.key.object s o then changed change.change modes else modes)
 
 -- both lists of changes make the same of each pair's modes
 abbrev pub ChangeAlike : List PairChange → List PairChange → Type 0
@@ -73,4 +75,7 @@ pair_modes change = record { subject = change.key.subject; object = change.key.o
 -- the change that gives a pair the modes that a table has for it
 abbrev pub pair_change : PairModes → PairChange
 pair_change pair =
-    record { key = record { subject = pair.subject; object = pair.object }; change = record { removed = all_modes; added = pair.modes } }
+    record {
+      key = record { subject = pair.subject; object = pair.object };
+      change = record { removed = all_modes; added = pair.modes };
+    }

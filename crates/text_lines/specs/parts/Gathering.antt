@@ -1,5 +1,6 @@
 -- The parts of handing out a line.
-use Rattle.std.specs.Prelude.{◌≡◌, ◌<◌, ◌+◌, ◌⊎◌, ℕ, Bool, true, false, List, [], ◌∷◌, ◌++◌, length, take, drop, Option, Result, Ok, Err}
+use Rattle.std.specs.Prelude.{◌≡◌, ◌<◌, ◌+◌, ◌⊎◌, ℕ, Bool, true, false, List, []}
+use Rattle.std.specs.Prelude.{◌∷◌, ◌++◌, length, take, drop, Option, Result, Ok, Err}
 use Rattle.desk_ports.specs.Content.{ReadToEnd}
 use Rattle.text_lines.specs.Lines.{HasNoNewline}
 use Rattle.text_lines.specs.declared.TheConstants.{NEWLINE}
@@ -33,7 +34,8 @@ pub record FailsToRead (old new : LineReading) (refusal : ReadRefusal) : Type 0 
   pub waiting : new.waiting ≡ old.waiting
 
 -- how reading up to the next line ends
-abbrev pub Gathers : Option (List ℕ) → Option (List ℕ) → LineReading → LineReading → Result (Unit {0}) ReadRefusal → Type 0
+abbrev pub Gathers : Option (List ℕ) → Option (List ℕ) → LineReading → LineReading → Result (Unit {0}) ReadRefusal
+    → Type 0
 Gathers left left_after old new (Ok value) = Keeps left left_after old new × (needs_no_reading new ≡ true)
 Gathers left left_after old new (Err (PastLimit number)) =
     Keeps left left_after old new × (number ≡ old.number + 1) × GoesPast old.longest old.room new.waiting

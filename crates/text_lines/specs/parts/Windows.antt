@@ -1,5 +1,6 @@
 -- What one reading brings into a window.
-use Rattle.std.specs.Prelude.{◌≡◌, ◌<◌, ◌≤◌, ℕ, Bool, true, false, List, [], ◌++◌, ◌+◌, length, take, Option, Result, Ok, Err}
+use Rattle.std.specs.Prelude.{◌≡◌, ◌<◌, ◌≤◌, ℕ, Bool, true, false, List, []}
+use Rattle.std.specs.Prelude.{◌++◌, ◌+◌, length, take, Option, Result, Ok, Err}
 use Rattle.desk_ports.specs.Content.{Took, AtEnd, ReadToEnd}
 use Rattle.text_lines.specs.declared.refusal.ReadRefusal.{ReadRefusal}
 use Rattle.text_lines.specs.declared.refusal.ReadRefusal.TheVariants.{PastLimit, Source, Memory}

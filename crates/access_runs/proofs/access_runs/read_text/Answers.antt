@@ -11,7 +11,8 @@ returns-in_err-read_more-clause-stopped g c =
       stopped.0,
       (
         c.pieces.text ++ stopped.1.0,
-        Took-then (g.S.Source.left c.args.source.now) (g.S.Source.left c.pieces.source) (g.S.Source.left c.read_more.new.source)
+        Took-then (g.S.Source.left c.args.source.now) (g.S.Source.left c.pieces.source)
+            (g.S.Source.left c.read_more.new.source)
             c.pieces.text stopped.1.0 c.pieces.invariant.took stopped.1.1,
       ),
     )

@@ -4,7 +4,7 @@ use Rattle.smack_rules.specs.Decision.{decision}
 use Rattle.smack_rules.specs.declared.decision.Decision.{Decision}
 use Rattle.smack_rules.specs.declared.modes.Modes.{Modes}
 use Rattle.run_endings.specs.Outside.{source_seen}
-use Rattle.script_replies.specs.Reply.{decided_text}
+use Rattle.line_answers.specs.Answers.{decided_text}
 use Rattle.access_runs.specs.parts.Access.{WritesAnswer, counts_sink}
 use Rattle.access_runs.proofs.Accessing.{Reads-unread, Reads-written, Reads-unwritten, unwritten-source}
 use Rattle.access_runs.proofs.access_runs.run_access.Goals as goal
@@ -12,7 +12,8 @@ use Rattle.access_runs.proofs.access_runs.run_access.Goals as goal
 decided : (subject object : List ℕ) (asked kept granted : Modes) (answer : Decision)
     → answer ≡ decision subject object asked kept → kept ≡ granted
     → decided_text answer ≡ decided_text (decision subject object asked granted)
-decided subject object asked kept granted answer is same = ap decided_text (is ∙ ap (decision subject object asked) same)
+decided subject object asked kept granted answer is same = ap decided_text
+    (is ∙ ap (decision subject object asked) same)
 
 pub returns-in-Err-clause-run : goal.returns-in-Err-clause-run
 returns-in-Err-clause-run g c =

@@ -16,7 +16,13 @@ pub modes_in_text-requires : goal.modes_in_text-requires
 modes_in_text-requires c =
     let lines = c.whole_lines-count.result.0.now in
     let are = c.whole_lines-count.ensures.lines in
-    omega (arith, ap length are.parts, length-append lines are.rest, length-take-le most_rules_bytes c.args.text.now (omega arith))
+    omega (
+      arith,
+      ap length are.parts,
+      length-append lines are.rest,
+      length-take-le most_rules_bytes c.args.text.now
+          (omega arith),
+    )
 
 pub overflow_add-result : goal.overflow_add-result
 overflow_add-result c =

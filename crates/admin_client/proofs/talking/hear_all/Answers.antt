@@ -1,5 +1,5 @@
 use Rattle.std.proofs.Common.{◌∙◌, List, refl, sym, ap, subst, arith, length, length-append}
-use Rattle.wire_messages.specs.declared.messages.Message.{Message}
+use Rattle.wire_fields.specs.declared.messages.Message.{Message}
 use Rattle.client_connection.specs.Reading.{IsTrouble}
 use Rattle.admin_client.proofs.Taking.{AreTaken, none_taken, waits_on, one_taken, fewer, row_refused, last_answers, last_refused, over_no_age, over_leaves, over_answers}
 use Rattle.admin_client.proofs.talking.hear_all.Goals as goal

@@ -2,7 +2,7 @@ use Rattle.std.proofs.Common.{◌≡◌, ◌≤◌, ℕ, length, take, Some, sub
 use Rattle.std.proofs.lemmas.List.{length-take-le}
 use Rattle.link_ports.specs.Told.{IfTold}
 use Rattle.link_ports.specs.Traffic.{with_received}
-use Rattle.wire_messages.specs.Stream.{wanted}
+use Rattle.wire_reading.specs.Stream.{wanted}
 use Rattle.client_core.specs.Admin.{wanted_at}
 use Rattle.client_core.specs.declared.stages.AdminStage.{AdminStage}
 use Rattle.client_connection.specs.Reading.{IsTrouble}

@@ -2,7 +2,7 @@ use Rattle.std.proofs.Common.{◌∙◌, Bool, List, ℕ, refl, subst}
 use Rattle.std.specs.Bool.{OnTrue, OnFalse}
 use Rattle.link_ports.specs.Told.{KeepsTold, ChangesTold}
 use Rattle.link_ports.specs.Traffic.{with_sent}
-use Rattle.wire_messages.specs.Frame.{with_sequence}
+use Rattle.wire_reading.specs.Frame.{with_sequence}
 use Rattle.client_core.specs.Admin.{exchange_of}
 use Rattle.client_connection.specs.Reading.{IsTrouble}
 use Rattle.admin_client.specs.Sending.{listed}

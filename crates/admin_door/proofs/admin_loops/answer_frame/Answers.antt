@@ -1,6 +1,6 @@
 use Rattle.std.proofs.Common.{List, sym, subst}
 use Rattle.desk_keeper.specs.Keeper.{disk_of}
-use Rattle.wire_messages.specs.declared.messages.Message.{Message}
+use Rattle.wire_fields.specs.declared.messages.Message.{Message}
 use Rattle.admin_door.specs.Side.{side_of}
 use Rattle.admin_door.specs.Answering.{Answers}
 use Rattle.admin_door.specs.Adding.{Acknowledges}

@@ -1,6 +1,6 @@
 use Rattle.std.proofs.Common.{List, refl, sym, ap, subst}
-use Rattle.wire_messages.specs.Stream.{Feeding}
-use Rattle.wire_messages.specs.declared.operations.Heard.TheVariants.{AtAdmin}
+use Rattle.wire_reading.specs.Stream.{Feeding}
+use Rattle.wire_fields.specs.declared.operations.Heard.TheVariants.{AtAdmin}
 use Rattle.door_frames.specs.Hearing.{IsSound}
 use Rattle.door_frames.proofs.Hearing.{unfed_sound}
 use Rattle.admin_door.specs.Side.{side_of}

@@ -1,5 +1,5 @@
 use Rattle.std.proofs.Common.{◌≡◌, ◌≤◌, length}
-use Rattle.wire_messages.specs.declared.operations.Heard.TheVariants.{AtAdmin}
+use Rattle.wire_fields.specs.declared.operations.Heard.TheVariants.{AtAdmin}
 use Rattle.live_desk.specs.History.{last_commit}
 use Rattle.desk_keeper.specs.Keeper.{IsSameDisk}
 use Rattle.door_frames.specs.Hearing.{IsSound}

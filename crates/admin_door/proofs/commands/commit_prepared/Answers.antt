@@ -1,6 +1,6 @@
 use Rattle.std.proofs.Common.{rules, ◌≡◌, ◌∙◌, ◌∷◌, [], inl, refl, ap}
 use Rattle.desk_state.specs.DeskState.{DeskState}
-use Rattle.wire_messages.specs.declared.messages.Message.TheVariants.{Done}
+use Rattle.wire_fields.specs.declared.messages.Message.TheVariants.{Done}
 use Rattle.admin_door.specs.Side.{AdminSide, side_of, with_kept, with_shown}
 use Rattle.admin_door.proofs.Showing.{same-side}
 use Rattle.admin_door.proofs.commands.commit_prepared.Goals as goal

@@ -1,8 +1,8 @@
 use Rattle.std.proofs.Common.{◌≡◌, ◌∷◌, [], ◌∙◌, List, subst, sym, IfSome, MatchResult}
 use Rattle.bucket_eval.specs.Evaluation.{answer}
 use Rattle.bucket_eval.specs.Found.{answer_of}
-use Rattle.wire_messages.specs.declared.messages.Message.{Message}
-use Rattle.wire_messages.specs.declared.messages.Message.TheVariants.{Judged}
+use Rattle.wire_fields.specs.declared.messages.Message.{Message}
+use Rattle.wire_fields.specs.declared.messages.Message.TheVariants.{Judged}
 use Rattle.door_frames.specs.declared.endings.Ended.TheVariants.{Memory}
 use Rattle.admin_door.proofs.Finding.{about-there, about-absent, answered-at}
 use Rattle.admin_door.proofs.questions.check_replies.Goals as goal

@@ -3,8 +3,8 @@ use Rattle.cynara_keys.specs.declared.keys.Policy.{Policy}
 use Rattle.bucket_store.specs.Change.{listed}
 use Rattle.bucket_store.specs.Database.{Database}
 use Rattle.bucket_store.specs.WellFormed.{IsSound}
-use Rattle.wire_messages.specs.declared.messages.Message.{Message}
-use Rattle.wire_messages.specs.declared.messages.Message.TheVariants.{ListRow, ListEnd}
+use Rattle.wire_fields.specs.declared.messages.Message.{Message}
+use Rattle.wire_fields.specs.declared.messages.Message.TheVariants.{ListRow, ListEnd}
 use Rattle.door_frames.specs.declared.endings.Ended.TheVariants.{Memory}
 use Rattle.admin_door.proofs.Finding.{about-absent, listed-within}
 use Rattle.admin_door.proofs.questions.list_replies.Goals as goal

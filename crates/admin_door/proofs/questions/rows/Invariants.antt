@@ -1,5 +1,5 @@
 use Rattle.std.proofs.Common.{◌≡◌, map}
-use Rattle.wire_messages.specs.declared.messages.Message.TheVariants.{ListRow}
+use Rattle.wire_fields.specs.declared.messages.Message.TheVariants.{ListRow}
 use Rattle.admin_door.proofs.questions.rows.Given as goal
 
 -- a row for each policy so far

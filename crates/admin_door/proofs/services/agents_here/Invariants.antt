@@ -1,5 +1,5 @@
 use Rattle.std.proofs.Common.{◌≡◌, map}
-use Rattle.wire_messages.specs.declared.messages.Message.TheVariants.{AgentHere}
+use Rattle.wire_fields.specs.declared.messages.Message.TheVariants.{AgentHere}
 use Rattle.admin_door.proofs.services.agents_here.Given as goal
 
 -- a reply for each kind so far

@@ -1,5 +1,5 @@
 use Rattle.std.proofs.Common.{◌≡◌, ◌∙◌, ◌++◌, subst, OnOk}
-use Rattle.line_script.specs.Answers.{row_text}
+use Rattle.line_answers.specs.Answers.{row_text}
 use Rattle.admin_runs.proofs.reply_lines.put_row.Goals as goal
 
 pub returns : goal.returns

@@ -15,8 +15,10 @@ returns-clause-run g c =
     (source_seen g.S.Source.left g.S.Source.faults c.send_script.new.source) sink sink_after
     c.args.dial.now c.send_script.new.dial c.leave.new.dial c.new-link.result c.send_script.new.link
     (subst (λ ending. SendsAll (Talks g.N.Link.Link.faults g.N.Link.Link.marks g.N.Link.Link.traffic g.N.Dial.faults g.N.Dial.dials
-    g.N.Dial.given_back (with_dial c.args.dial.now c.new-link.result) (with_dial c.send_script.new.dial c.send_script.new.link) sink sink_after)
-    (g.S.Source.left c.args.source.now) (g.S.Source.left c.send_script.new.source) ending) (sym c.ending_by-ending.ensures)
+    g.N.Dial.given_back (with_dial c.args.dial.now c.new-link.result)
+    (with_dial c.send_script.new.dial c.send_script.new.link) sink sink_after)
+    (g.S.Source.left c.args.source.now) (g.S.Source.left c.send_script.new.source) ending)
+    (sym c.ending_by-ending.ensures)
     c.send_script.ensures.sent)
     c.new-link.ensures c.leave.ensures.gives
 
@@ -29,7 +31,9 @@ returns-clause-count g c =
     (source_seen g.S.Source.left g.S.Source.faults c.send_script.new.source) sink sink_after
     c.args.dial.now c.send_script.new.dial c.leave.new.dial c.new-link.result c.send_script.new.link
     (subst (λ ending. SendsAll (Talks g.N.Link.Link.faults g.N.Link.Link.marks g.N.Link.Link.traffic g.N.Dial.faults g.N.Dial.dials
-    g.N.Dial.given_back (with_dial c.args.dial.now c.new-link.result) (with_dial c.send_script.new.dial c.send_script.new.link) sink sink_after)
-    (g.S.Source.left c.args.source.now) (g.S.Source.left c.send_script.new.source) ending) (sym c.ending_by-ending.ensures)
+    g.N.Dial.given_back (with_dial c.args.dial.now c.new-link.result)
+    (with_dial c.send_script.new.dial c.send_script.new.link) sink sink_after)
+    (g.S.Source.left c.args.source.now) (g.S.Source.left c.send_script.new.source) ending)
+    (sym c.ending_by-ending.ensures)
     c.send_script.ensures.sent)
     c.new-link.ensures c.leave.ensures.gives

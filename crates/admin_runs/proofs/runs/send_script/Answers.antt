@@ -1,8 +1,8 @@
 use Rattle.std.proofs.Common.{refl, sym, subst, ◌∙◌, Ok}
 use Rattle.text_lines.specs.LineReader.{LineReading}
-use Rattle.line_script.specs.declared.places.Place.TheVariants.{Admin}
-use Rattle.script_reading.specs.Reading.{Goes}
-use Rattle.script_reading.proofs.Going.{goes_first}
+use Rattle.script_words.specs.declared.places.Place.TheVariants.{Admin}
+use Rattle.script_replies.specs.Reading.{Goes}
+use Rattle.script_replies.proofs.Going.{goes_first}
 use Rattle.admin_client.specs.Sending.{with_dial}
 use Rattle.run_endings.specs.Outside.{sink_seen}
 use Rattle.run_endings.specs.declared.endings.Ending.TheVariants.{Done}
@@ -26,7 +26,8 @@ loop-script-init g c =
     let Kept = Sends g.N.Link.Link.faults g.N.Link.Link.marks g.N.Link.Link.traffic g.N.Dial.faults g.N.Dial.dials g.N.Dial.given_back
     state state seen seen in
     record {
-      goes = subst (λ (lines : LineReading). Goes Admin left left c.new-script.result.reader lines Kept) (sym c.in-Ok.ensures)
+      goes = subst (λ (lines : LineReading). Goes Admin left left c.new-script.result.reader lines Kept)
+          (sym c.in-Ok.ensures)
           (goes_first Admin left c.new-script.result.reader c.new-script.ensures Kept
           (talk_none g.N.Link.Link.faults g.N.Link.Link.marks g.N.Link.Link.traffic g.N.Dial.faults g.N.Dial.dials
           g.N.Dial.given_back Done state state seen seen tt refl refl refl));
@@ -41,13 +42,16 @@ loop-script-preserved g c =
     let before = sink_seen g.K.Sink.taken g.K.Sink.faults c.args.sink.now in
     let mid = sink_seen g.K.Sink.taken g.K.Sink.faults c.loop-script.sink in
     let after = sink_seen g.K.Sink.taken g.K.Sink.faults c.send_next.new.sink in
-    let turn = subst (λ found. Turns (Talks g.N.Link.Link.faults g.N.Link.Link.marks g.N.Link.Link.traffic g.N.Dial.faults g.N.Dial.dials
+    let turn = subst (λ found. Turns
+    (Talks g.N.Link.Link.faults g.N.Link.Link.marks g.N.Link.Link.traffic g.N.Dial.faults g.N.Dial.dials
     g.N.Dial.given_back between new mid after) c.loop-script.script.reader c.send_next.new.self.reader
-    (g.S.Source.left c.loop-script.source) (g.S.Source.left c.send_next.new.source) c.loop-script.lines c.send_next.new.lines (Ok found))
+    (g.S.Source.left c.loop-script.source)
+    (g.S.Source.left c.send_next.new.source) c.loop-script.lines c.send_next.new.lines (Ok found))
     c.in-Ok-true.field-0-test c.in-Ok-true.ensures.turn in
     record {
       goes = sends_next g.N.Link.Link.faults g.N.Link.Link.marks g.N.Link.Link.traffic g.N.Dial.faults g.N.Dial.dials g.N.Dial.given_back
-          (g.S.Source.left c.args.source.now) (g.S.Source.left c.loop-script.source) (g.S.Source.left c.send_next.new.source)
+          (g.S.Source.left c.args.source.now) (g.S.Source.left c.loop-script.source)
+          (g.S.Source.left c.send_next.new.source)
           c.loop-script.script.reader c.send_next.new.self.reader c.loop-script.lines c.send_next.new.lines old between new before mid after
           c.loop-script.invariant.goes c.in-Ok-true.ensures.ended turn.0 turn.1;
       source = c.in-Ok-true.ensures.source ∙ c.loop-script.invariant.source;
@@ -62,9 +66,11 @@ returns-in-Ok-false-clause-sent g c =
     let mid = sink_seen g.K.Sink.taken g.K.Sink.faults c.loop-script.sink in
     let after = sink_seen g.K.Sink.taken g.K.Sink.faults c.send_next.new.sink in
     let last = sink_seen g.K.Sink.taken g.K.Sink.faults c.end_script.new.sink in
-    let turn = subst (λ found. Turns (Talks g.N.Link.Link.faults g.N.Link.Link.marks g.N.Link.Link.traffic g.N.Dial.faults g.N.Dial.dials
+    let turn = subst (λ found. Turns
+    (Talks g.N.Link.Link.faults g.N.Link.Link.marks g.N.Link.Link.traffic g.N.Dial.faults g.N.Dial.dials
     g.N.Dial.given_back between new mid after) c.loop-script.script.reader c.send_next.new.self.reader
-    (g.S.Source.left c.loop-script.source) (g.S.Source.left c.send_next.new.source) c.loop-script.lines c.send_next.new.lines (Ok found))
+    (g.S.Source.left c.loop-script.source)
+    (g.S.Source.left c.send_next.new.source) c.loop-script.lines c.send_next.new.lines (Ok found))
     c.in-Ok-false.field-0-test c.in-Ok-false.ensures.turn in
     sends_over g.N.Link.Link.faults g.N.Link.Link.marks g.N.Link.Link.traffic g.N.Dial.faults g.N.Dial.dials g.N.Dial.given_back
     (g.S.Source.left c.args.source.now) (g.S.Source.left c.loop-script.source) (g.S.Source.left c.send_next.new.source)
@@ -79,5 +85,6 @@ returns-in-Err-send_next-clause-sent g c =
     c.loop-script.script.reader c.send_next.new.self.reader c.loop-script.lines c.send_next.new.lines
     (with_dial c.args.dial.now c.args.link.now) (with_dial c.loop-script.dial c.loop-script.link)
     (with_dial c.send_next.new.dial c.send_next.new.link) (sink_seen g.K.Sink.taken g.K.Sink.faults c.args.sink.now)
-    (sink_seen g.K.Sink.taken g.K.Sink.faults c.loop-script.sink) (sink_seen g.K.Sink.taken g.K.Sink.faults c.send_next.new.sink)
+    (sink_seen g.K.Sink.taken g.K.Sink.faults c.loop-script.sink)
+    (sink_seen g.K.Sink.taken g.K.Sink.faults c.send_next.new.sink)
     c.loop-script.invariant.goes c.in-Err-send_next.ensures.ended c.in-Err-send_next.ending c.in-Err-send_next.ensures.turn

@@ -1,6 +1,6 @@
 use Rattle.std.proofs.Common.{◌≡◌}
-use Rattle.line_script.specs.declared.places.Place.TheVariants.{Admin}
-use Rattle.script_reading.specs.Reading.{Goes}
+use Rattle.script_words.specs.declared.places.Place.TheVariants.{Admin}
+use Rattle.script_replies.specs.Reading.{Goes}
 use Rattle.admin_client.specs.Sending.{with_dial}
 use Rattle.run_endings.specs.Outside.{sink_seen}
 use Rattle.admin_runs.proofs.Scripts.{Sends}

@@ -1,7 +1,7 @@
 use Rattle.std.proofs.Common.{◌∙◌, [], refl, sym, ap, subst}
 use Rattle.agent_table.specs.declared.refusals.RegisterRefusal.{RegisterRefusal}
 use Rattle.link_ports.specs.LinkMarks.{LinkMarks}
-use Rattle.wire_messages.specs.Stream.{Feeding}
+use Rattle.wire_reading.specs.Stream.{Feeding}
 use Rattle.server_hall.specs.Tally.{after_part}
 use Rattle.door_frames.proofs.Carrying.{carried_same}
 use Rattle.door_frames.specs.declared.endings.Ended.TheVariants.{Stopped, Memory}

@@ -1,5 +1,5 @@
 use Rattle.std.proofs.Common.{◌≡◌, None}
-use Rattle.wire_messages.specs.declared.operations.Heard.TheVariants.{AtAgent}
+use Rattle.wire_fields.specs.declared.operations.Heard.TheVariants.{AtAgent}
 use Rattle.door_frames.specs.Hearing.{IsSound}
 use Rattle.agent_door.specs.Serving.{AgentSide, agent_side}
 use Rattle.agent_door.specs.parts.Talk.{HasJoined, Stands}

@@ -1,6 +1,6 @@
 use Rattle.std.proofs.Common.{◌∙◌, [], ap, inr, refl, arith}
 use Rattle.link_ports.specs.LinkMarks.{LinkMarks}
-use Rattle.wire_messages.specs.Frame.{spelling}
+use Rattle.wire_reading.specs.Frame.{spelling}
 use Rattle.door_frames.proofs.Carrying.{carried_nothing}
 use Rattle.server_hall.specs.declared.refusals.NextRefusal.{NextRefusal}
 use Rattle.door_frames.specs.declared.endings.Ended.TheVariants.{Closed, Stopped, Memory}

@@ -1,7 +1,7 @@
 use Rattle.std.proofs.Common.{◌%◌, [], subst}
 use Rattle.cynara_keys.specs.PolicyResult.{Ruling}
-use Rattle.wire_messages.specs.Frame.{spelling, with_sequence}
-use Rattle.wire_messages.specs.declared.messages.Message.TheVariants.{AgentQuestion}
+use Rattle.wire_reading.specs.Frame.{spelling, with_sequence}
+use Rattle.wire_fields.specs.declared.messages.Message.TheVariants.{AgentQuestion}
 use Rattle.door_frames.specs.Carried.{Carried}
 use Rattle.agent_door.proofs.rounds.send_question.Goals as goal
 

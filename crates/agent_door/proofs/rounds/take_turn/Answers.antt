@@ -1,6 +1,6 @@
 use Rattle.std.proofs.Common.{◌∙◌, ◌≤◌, Option, ap, sym, subst, refl}
 use Rattle.link_ports.specs.LinkMarks.{LinkMarks}
-use Rattle.wire_messages.specs.Stream.{Feeding}
+use Rattle.wire_reading.specs.Stream.{Feeding}
 use Rattle.door_frames.specs.Hearing.{HandsOut}
 use Rattle.agent_door.specs.Frame.{answer_frame}
 use Rattle.agent_door.specs.Serving.{agent_side}

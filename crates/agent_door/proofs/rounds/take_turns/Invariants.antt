@@ -1,6 +1,6 @@
 use Rattle.std.proofs.Common.{◌≡◌, Some}
 use Rattle.agent_table.specs.declared.table.Asked.{Asked}
-use Rattle.wire_messages.specs.declared.operations.Heard.TheVariants.{AtAgent}
+use Rattle.wire_fields.specs.declared.operations.Heard.TheVariants.{AtAgent}
 use Rattle.door_frames.specs.Hearing.{IsSound}
 use Rattle.agent_door.specs.Serving.{agent_side}
 use Rattle.agent_door.specs.parts.Talk.{Goes, waiting_since}

@@ -1,5 +1,5 @@
 use Rattle.std.proofs.Common.{Option, subst}
-use Rattle.wire_messages.specs.declared.messages.Framed.{Framed}
+use Rattle.wire_fields.specs.declared.messages.Framed.{Framed}
 use Rattle.agent_door.specs.parts.Talk.{EndsHearing, HearsFrame}
 use Rattle.agent_door.proofs.waiting.answer_in_time.Goals as goal
 

@@ -1,5 +1,5 @@
 use Rattle.std.proofs.Common.{[], subst, sym, append-nil}
-use Rattle.wire_messages.specs.Stream.{Feeding}
+use Rattle.wire_reading.specs.Stream.{Feeding}
 use Rattle.door_frames.specs.Hearing.{HearsMore, HandsOut}
 use Rattle.door_frames.proofs.Carrying.{carried_same, carried_nothing, carried_more}
 use Rattle.door_frames.proofs.Hearing.{hears_nothing, hands_out_more, takes}

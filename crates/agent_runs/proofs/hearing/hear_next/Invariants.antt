@@ -1,5 +1,5 @@
 use Rattle.std.proofs.Common.{◌≡◌, ◌-◌, [], length, false}
-use Rattle.wire_messages.specs.Stream.{IsOpen, unfed}
+use Rattle.wire_reading.specs.Stream.{IsOpen, unfed}
 use Rattle.agent_runs.specs.LinkSeen.{link_seen, Carries}
 use Rattle.agent_runs.proofs.hearing.hear_next.Given as goal
 

@@ -1,6 +1,6 @@
 use Rattle.std.proofs.Common.{sym, ap, ◌∙◌, subst, ◌≡◌}
 use Rattle.run_endings.specs.Outside.{sink_seen}
-use Rattle.line_script.specs.Answers.{question_text, ruling}
+use Rattle.line_answers.specs.Answers.{question_text, ruling}
 use Rattle.agent_runs.specs.LinkSeen.{link_seen}
 use Rattle.agent_runs.specs.AgentTalk.{line_for, line_of, answer_for, IsQuestion}
 use Rattle.agent_runs.proofs.Talking.{follows-question}

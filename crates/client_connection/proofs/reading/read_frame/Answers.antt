@@ -1,8 +1,8 @@
 use Rattle.std.proofs.Common.{◌≡◌, ◌∙◌, ◌++◌, ℕ, List, [], Ok, Err, Some, refl, sym, ap, subst}
 use Rattle.link_ports.specs.Told.{IfTold}
 use Rattle.link_ports.specs.Traffic.{with_received}
-use Rattle.wire_messages.specs.Stream.{Feeding, IsOpen}
-use Rattle.wire_messages.specs.declared.operations.Heard.{Heard}
+use Rattle.wire_reading.specs.Stream.{Feeding, IsOpen}
+use Rattle.wire_fields.specs.declared.operations.Heard.{Heard}
 use Rattle.client_connection.specs.declared.faults.Broken.TheVariants.{Wrong}
 use Rattle.client_connection.proofs.Exchanging.{nothing_open}
 use Rattle.client_connection.proofs.Receiving.{received_nothing, received_more, all_read, started, went_on}

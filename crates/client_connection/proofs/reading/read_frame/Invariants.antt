@@ -1,7 +1,7 @@
 use Rattle.std.proofs.Common.{◌≡◌, ◌-◌, Some, length}
 use Rattle.link_ports.specs.Told.{IfTold}
 use Rattle.link_ports.specs.Traffic.{with_received}
-use Rattle.wire_messages.specs.Stream.{IsOpen, unfed}
+use Rattle.wire_reading.specs.Stream.{IsOpen, unfed}
 use Rattle.client_connection.proofs.reading.read_frame.Given as goal
 
 -- the bytes received so far are those of the frame under way

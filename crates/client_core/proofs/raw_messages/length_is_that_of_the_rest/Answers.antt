@@ -1,7 +1,7 @@
 use Rattle.std.proofs.Common.{◌≡◌, ◌≤◌, ◌<◌, ◌+◌, ◌^◌, ℕ, List, ◌∷◌, ◌++◌, length, ap, ◌∙◌, sym, arith, length-append}
 use Rattle.std.proofs.lemmas.Nat.{from_be_bytes-to_be_bytes_4}
 use Rattle.std.specs.Int.{w16, w32, to_be_bytes}
-use Rattle.wire_messages.specs.Frame.{length_of}
+use Rattle.wire_reading.specs.Frame.{length_of}
 use Rattle.client_core.specs.Admin.{raw_frame}
 use Rattle.client_core.proofs.raw_messages.length_is_that_of_the_rest.Goals as goal
 

@@ -1,6 +1,6 @@
 use Rattle.std.proofs.Common.{List, ℕ, [], sym, ap, subst}
-use Rattle.wire_messages.specs.Stream.{Feeding, unfed}
-use Rattle.wire_messages.specs.declared.operations.Heard.TheVariants.{AtClient}
+use Rattle.wire_reading.specs.Stream.{Feeding, unfed}
+use Rattle.wire_fields.specs.declared.operations.Heard.TheVariants.{AtClient}
 use Rattle.door_frames.specs.Hearing.{IsSound}
 use Rattle.door_frames.proofs.Hearing.{unfed_sound}
 use Rattle.client_door.specs.Serving.{ClientSide, recorded_side}

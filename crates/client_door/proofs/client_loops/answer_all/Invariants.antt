@@ -1,5 +1,5 @@
 use Rattle.std.proofs.Common.{◌≡◌, []}
-use Rattle.wire_messages.specs.declared.operations.Heard.TheVariants.{AtClient}
+use Rattle.wire_fields.specs.declared.operations.Heard.TheVariants.{AtClient}
 use Rattle.door_frames.specs.Hearing.{IsSound}
 use Rattle.client_door.specs.Recording.{Leads}
 use Rattle.client_door.specs.Serving.{recorded_side}

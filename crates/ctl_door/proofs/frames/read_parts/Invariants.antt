@@ -1,6 +1,6 @@
 use Rattle.std.proofs.Common.{◌≡◌, ◌-◌, length}
-use Rattle.wire_messages.specs.Stream.{unfed}
-use Rattle.wire_messages.specs.declared.operations.Heard.TheVariants.{Replies}
+use Rattle.wire_reading.specs.Stream.{unfed}
+use Rattle.wire_fields.specs.declared.operations.Heard.TheVariants.{Replies}
 use Rattle.ctl_door.specs.Told.{TookBytes, AreParts}
 use Rattle.ctl_door.proofs.frames.read_parts.Given as goal
 

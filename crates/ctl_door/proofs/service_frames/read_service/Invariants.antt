@@ -1,6 +1,6 @@
 use Rattle.std.proofs.Common.{◌≡◌, ◌-◌, length}
-use Rattle.wire_messages.specs.Stream.{unfed}
-use Rattle.wire_messages.specs.declared.operations.Heard.TheVariants.{Replies}
+use Rattle.wire_reading.specs.Stream.{unfed}
+use Rattle.wire_fields.specs.declared.operations.Heard.TheVariants.{Replies}
 use Rattle.ctl_door.specs.Told.{TookBytes}
 use Rattle.ctl_door.specs.Service.{AreAgents}
 use Rattle.ctl_door.proofs.service_frames.read_service.Given as goal

@@ -2,7 +2,7 @@ use Rattle.std.proofs.Common.{◌≡◌, ◌<◌, ◌≤◌, ◌∙◌, List, �
 use Rattle.std.proofs.lemmas.List.{length-take-le}
 use Rattle.link_ports.specs.Told.{IfTold}
 use Rattle.link_ports.specs.Traffic.{with_received}
-use Rattle.wire_messages.specs.Stream.{wanted}
+use Rattle.wire_reading.specs.Stream.{wanted}
 use Rattle.client_core.specs.Asking.{wanted_at}
 use Rattle.client_core.specs.declared.stages.Stage.{Stage}
 use Rattle.client_connection.specs.Reading.{IsTrouble}

@@ -1,6 +1,6 @@
 use Rattle.std.proofs.Common.{◌≡◌, ◌∙◌, ℕ, List, [], ◌∷◌, ◌++◌, ap, subst, sym, refl, append-nil}
 use Rattle.link_ports.specs.Traffic.{Traffic}
-use Rattle.wire_messages.specs.Stream.{Feeding}
+use Rattle.wire_reading.specs.Stream.{Feeding}
 use Rattle.door_frames.specs.Carried.{Carried}
 use Rattle.door_frames.specs.Hearing.{HearsMore, HandsOut}
 use Rattle.door_frames.proofs.Carrying.{carried_same, carried_more}

@@ -1,5 +1,5 @@
 use Rattle.std.proofs.Common.{rules, ◌≡◌, ◌∙◌, [], take, ap, sym, subst}
-use Rattle.wire_messages.specs.Stream.{Feeding}
+use Rattle.wire_reading.specs.Stream.{Feeding}
 use Rattle.door_frames.specs.Hearing.{HearsMore}
 use Rattle.door_frames.proofs.Carrying.{take_none, carried_nothing, carried_none, carried_received}
 use Rattle.door_frames.proofs.Hearing.{hears_nothing}

@@ -6,4 +6,5 @@ use Rattle.line_reasons.proofs.Explaining.{explains}
 use Rattle.line_reasons.proofs.faults.rule_fault.Goals as goal
 
 pub returns : goal.returns
-returns c = explains (λ line. result_ok (line_rule line)) Rules rules_are c.args.line.now c.fault_at.result c.fault_at.ensures
+returns c = explains (λ line. result_ok
+    (line_rule line)) Rules rules_are c.args.line.now c.fault_at.result c.fault_at.ensures

@@ -10,5 +10,6 @@ use Rattle.line_reasons.proofs.faults.script_fault.Goals as goal
 pub returns : goal.returns
 returns c = λ block at.
     let Found : Ground → Type 0 = λ ground. Finds ground c.args.line.now c.fault_at.result in
-    explains (any_length_step_at block) (ground_of c.args.spot) (steps_are block c.args.spot at) c.args.line.now c.fault_at.result
+    explains (any_length_step_at block) (ground_of c.args.spot)
+    (steps_are block c.args.spot at) c.args.line.now c.fault_at.result
     (subst Found c.of.ensures c.fault_at.ensures)

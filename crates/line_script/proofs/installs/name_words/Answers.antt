@@ -1,9 +1,10 @@
-use Rattle.std.proofs.Common.{◌≡◌, ◌++◌, ◌&&◌, ◌∷◌, [], List, ℕ, true, ap, sym, subst, ◌∙◌, append_assoc, append-nil, rules}
+use Rattle.std.proofs.Common.{◌≡◌, ◌++◌, ◌&&◌, ◌∷◌, [], List, ℕ, true, ap, sym, subst, ◌∙◌, append_assoc, append-nil}
+use Rattle.std.proofs.Common.{rules}
 use Rattle.std.specs.List.{list_all}
 use Rattle.std.proofs.lemmas.List.Folds.{list_all-append}
 use Rattle.cynara_keys.specs.Name.{is_name}
 use Rattle.line_script.specs.Grammar.{names_at}
-use Rattle.line_script.specs.WordForms.{name_at}
+use Rattle.script_words.specs.WordForms.{name_at}
 use Rattle.line_script.proofs.NameWords.{names_at-wrong, names_at-right, name_at-right}
 use Rattle.line_script.proofs.Refusing.{refused_with}
 use Rattle.line_script.proofs.installs.name_words.Goals as goal

@@ -1,7 +1,7 @@
 use Rattle.std.proofs.Common.{rules, ◌≡◌, ◌∷◌, Some, true}
 use Rattle.std.specs.Prelude.{codes}
 use Rattle.line_script.specs.Grammar.{check_at}
-use Rattle.line_script.specs.Words.{words_of}
+use Rattle.script_words.specs.Words.{words_of}
 use Rattle.line_script.specs.declared.steps.Step.TheVariants as step
 use Rattle.line_script.specs.parts.Beginnings.{begins_as_check}
 use Rattle.line_script.proofs.Checks.{read_as_check}

@@ -18,7 +18,8 @@ returns-in_err-lines-clause-answered g c =
     rw (exit.1, exit.2)
     (Answers-nothing
     (KeepsSteps g.D.Disk.state g.D.Disk.moment g.D.Disk.left_since disk disk c.args.keeper.now.desk c.args.keeper.now.vault.held)
-    c.args.keeper.now.desk (g.S.Source.left c.args.source.now) (g.K.Sink.taken c.args.sink.now) c.args.script.now.answers
+    c.args.keeper.now.desk (g.S.Source.left c.args.source.now)
+    (g.K.Sink.taken c.args.sink.now) c.args.script.now.answers
     c.requires.answers
     (keeps-none g.D.Disk.state g.D.Disk.moment g.D.Disk.left_since g.D.Disk.faults disk disk c.args.keeper.now.desk c.args.keeper.now.vault.held
     (λ left. g.met.D.Disk.only_now disk left)))
@@ -32,7 +33,8 @@ lines-init g c =
     let taken = g.K.Sink.taken c.args.sink.now in
     let Kept = KeepsSoFar g.D.Disk.state g.D.Disk.moment g.D.Disk.left_since disk disk desk held desk held in
     record {
-      goes = subst (λ lines. GoesOn Kept desk left left taken taken c.args.script.now desk lines) (sym c.in_ok-lines.ensures)
+      goes = subst (λ lines. GoesOn Kept desk left left taken taken c.args.script.now desk lines)
+          (sym c.in_ok-lines.ensures)
           (goes-start Kept desk left taken c.args.script.now c.requires.reader c.requires.answers c.requires.shares
           (λ begins. (
             begins,
@@ -40,7 +42,8 @@ lines-init g c =
                 (λ left. g.met.D.Disk.only_now disk left) begins).1,
           )));
       decided = c.requires.decided;
-      folded = subst (λ folded. AreFolded folded desk c.args.script.now.shares) (sym c.requires.rules) (record { table = tt; given = tt; indexed = tt });
+      folded = subst (λ folded. AreFolded folded desk c.args.script.now.shares) (sym c.requires.rules)
+          (record { table = tt; given = tt; indexed = tt });
       source = refl;
       sink = refl;
       disk = refl;

@@ -9,7 +9,8 @@ invariant-lines g l =
     record {
       goes : GoesOn (KeepsSoFar g.D.Disk.state g.D.Disk.moment g.D.Disk.left_since l.fn.keeper.vault.disk.now l.keeper.vault.disk.now
           l.fn.keeper.desk l.fn.keeper.vault.held l.keeper.desk l.keeper.vault.held)
-          l.fn.keeper.desk (g.S.Source.left l.fn.source) (g.S.Source.left l.source) (g.K.Sink.taken l.fn.sink) (g.K.Sink.taken l.sink)
+          l.fn.keeper.desk (g.S.Source.left l.fn.source) (g.S.Source.left l.source) (g.K.Sink.taken l.fn.sink)
+          (g.K.Sink.taken l.sink)
           l.script l.keeper.desk l.lines;
       decided : (l.keeper.read && l.keeper.vault.decided) ≡ true;
       folded : AreFolded l.script.rules l.keeper.desk l.script.shares;

@@ -22,7 +22,8 @@ returns-in-Err-clause-source g c = rw c.ending_of_mount.ensures (search rules)
 
 pub returns-in-Err-clause-disk : goal.returns-in-Err-clause-disk
 returns-in-Err-clause-disk g c =
-    rw c.ending_of_mount.ensures (c.in-Err.ensures.count ∙ refuses-count c.in-Err.refusal (g.D.Disk.faults c.args.disk.now))
+    rw c.ending_of_mount.ensures (c.in-Err.ensures.count ∙ refuses-count c.in-Err.refusal
+    (g.D.Disk.faults c.args.disk.now))
 
 pub returns-clause-run : goal.returns-clause-run
 returns-clause-run g c =
@@ -40,7 +41,8 @@ returns-clause-run g c =
         folder =
             keeps-folder g.D.Disk.state g.D.Disk.moment g.D.Disk.left_since g.D.Disk.faults c.args.disk.now new
             keeper.vault.disk.now keeper.desk keeper.vault.held c.answer_over-ending.result answered.1.answered answered.1.steps
-            (rw of.desk found.desk) (rw (of.desk, of.held, of.disk) found.settled) (rw of.disk found.moments) answered.2;
+            (rw of.desk found.desk) (rw (of.desk, of.held, of.disk) found.settled)
+            (rw of.disk found.moments) answered.2;
       }),
       answered.3,
     )

@@ -13,7 +13,8 @@ returns-in-Ok-ask_over c =
     let sample = c.args.sample.now in
     let same : c.in-Ok.index ≡ sample.desk.database = c.in-Ok.ensures ∙ c.database.ensures.database in
     subst (λ (database : Database). option_map (λ (asked : Asked). asked.tally)
-    (each_line (ask_line database) (questions c.args.count) (none_asked sample.reader)) ≡ Some c.ask_over.new.tally) same
+    (each_line (ask_line database) (questions c.args.count) (none_asked sample.reader))
+    ≡ Some c.ask_over.new.tally) same
     (asks-through c.in-Ok.index c.args.count sample.reader (none_asked sample.reader)
     (asked_of c.ask_over.new.sample c.ask_over.new.tally) refl c.in-Ok-ask_over.ensures)
 

@@ -15,7 +15,8 @@ apps-init c = record {
 
 pub apps-preserved : goal.apps-preserved
 apps-preserved c = record {
-  goes = goes-turn (ask_line c.args.index.now) checks checks_of (asked_of c.args.sample.now c.args.tally.now) c.args.count
+  goes = goes-turn (ask_line c.args.index.now) checks checks_of
+      (asked_of c.args.sample.now c.args.tally.now) c.args.count
       (λ app. refl) (λ app left. refl) c.apps.app (asked_of c.apps.sample c.apps.tally)
       (asked_of c.ask_app.new.sample c.ask_app.new.tally) c.apps-test.true c.apps.invariant.goes c.in-Ok.ensures.asks;
   within = omega (arith, c.apps-test.true);

@@ -21,10 +21,12 @@ returns-then-is_empty c =
     let s = c.args.subject.now in
     let o = c.args.object.now in
     let b = granted c.args.table.now s o in
-    let last = ap (λ (decided : Decision). decided.rule) (sym c.decide-decision.ensures.decided) ∙ c.if-decision-ne7.false in
+    let last = ap (λ (decided : Decision). decided.rule) (sym c.decide-decision.ensures.decided)
+    ∙ c.if-decision-ne7.false in
     let missing : c.without-missing.result ≡ without c.args.asked (with_lock c.args.more) =
     c.without-missing.ensures ∙ ap (without c.args.asked) c.with_lock.ensures in
-    sym (decided-all s o c.args.asked b c.args.more last (ap is_empty (sym missing) ∙ (sym c.is_empty.ensures ∙ c.if-is_empty.true)))
+    sym (decided-all s o c.args.asked b c.args.more last
+    (ap is_empty (sym missing) ∙ (sym c.is_empty.ensures ∙ c.if-is_empty.true)))
 
 -- what is left is a request
 pub decide-requires : goal.decide-requires
@@ -40,7 +42,8 @@ returns c =
     let s = c.args.subject.now in
     let o = c.args.object.now in
     let b = granted c.args.table.now s o in
-    let last = ap (λ (decided : Decision). decided.rule) (sym c.decide-decision.ensures.decided) ∙ c.if-decision-ne7.false in
+    let last = ap (λ (decided : Decision). decided.rule) (sym c.decide-decision.ensures.decided)
+    ∙ c.if-decision-ne7.false in
     let missing : c.without-missing.result ≡ without c.args.asked (with_lock c.args.more) =
     c.without-missing.ensures ∙ ap (without c.args.asked) c.with_lock.ensures in
     c.decide.ensures.decided

@@ -1,5 +1,5 @@
 use Rattle.std.proofs.Common.{◌≡◌, ◌∙◌, ◌++◌, subst, OnOk}
-use Rattle.line_script.specs.Answers.{by_policy_text}
+use Rattle.line_answers.specs.Answers.{by_policy_text}
 use Rattle.script_replies.proofs.questions.print_decided.Goals as goal
 
 pub returns-clause-ok : goal.returns-clause-ok

@@ -2,7 +2,7 @@ use Rattle.std.proofs.Common.{◌≡◌, ◌++◌, ◌∙◌, ℕ, List, subst, 
 use Rattle.bucket_store.specs.Database.{Database}
 use Rattle.bucket_eval.specs.Evaluation.{answer}
 use Rattle.desk_state.specs.declared.refusals.Refusal.TheVariants.{NoBucket}
-use Rattle.line_script.specs.Answers.{refusal_text}
+use Rattle.line_answers.specs.Answers.{refusal_text}
 use Rattle.script_replies.specs.Reply.{about, verdict_text}
 use Rattle.script_replies.proofs.Finding.{about-there, about-absent, answered-at}
 use Rattle.script_replies.proofs.questions.print_from.Goals as goal
@@ -31,4 +31,5 @@ returns-in-None-clause-ok c =
     (answer c.args.desk.now.database name c.args.question.now c.args.deep) in
     subst (λ (text : List ℕ). OnOk c.print_absent.result (c.print_absent.new.out ≡ c.args.out.now ++ text))
     (sym (subst (λ (database : Database). about database name text ≡ refusal_text (NoBucket name)) c.database-database.ensures.database
-    (about-absent name c.database-database.result.now text (sym c.place_of.ensures ∙ c.in-None.is)))) c.print_absent.ensures.ok
+    (about-absent name c.database-database.result.now text
+    (sym c.place_of.ensures ∙ c.in-None.is)))) c.print_absent.ensures.ok

@@ -4,7 +4,7 @@ use Rattle.bucket_store.specs.Change.{listed}
 use Rattle.bucket_store.specs.Database.{Database}
 use Rattle.bucket_store.specs.WellFormed.{IsSound}
 use Rattle.desk_state.specs.declared.refusals.Refusal.TheVariants.{NoBucket}
-use Rattle.line_script.specs.Answers.{refusal_text}
+use Rattle.line_answers.specs.Answers.{refusal_text}
 use Rattle.script_replies.specs.Reply.{about, list_text}
 use Rattle.script_replies.proofs.Finding.{has-found, about-absent}
 use Rattle.script_replies.proofs.Listing.{only-memory, listed-within}
@@ -16,7 +16,8 @@ returns-in-None-clause-ok c =
     let text = list_text (listed name c.args.filter.now c.args.desk.now.database) in
     subst (λ (text : List ℕ). OnOk c.print_absent.result (c.print_absent.new.out ≡ c.args.out.now ++ text))
     (sym (subst (λ (database : Database). about database name text ≡ refusal_text (NoBucket name)) c.database-database.ensures.database
-    (about-absent name c.database-database.result.now text (sym c.place.ensures ∙ c.in-None.is)))) c.print_absent.ensures.ok
+    (about-absent name c.database-database.result.now text
+    (sym c.place.ensures ∙ c.in-None.is)))) c.print_absent.ensures.ok
 
 pub print_rows-requires : goal.print_rows-requires
 print_rows-requires c =

@@ -1,5 +1,5 @@
 use Rattle.std.proofs.Common.{◌≡◌, ◌∙◌, ◌++◌, subst, OnOk}
-use Rattle.line_script.specs.Answers.{row_text}
+use Rattle.line_answers.specs.Answers.{row_text}
 use Rattle.script_replies.proofs.questions.print_row.Goals as goal
 
 pub returns-clause-ok : goal.returns-clause-ok

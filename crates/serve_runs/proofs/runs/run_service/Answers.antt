@@ -9,8 +9,8 @@ use Rattle.desk_keeper.specs.Keeper.{disk_of}
 use Rattle.desk_keeper.specs.declared.keeper.Keeper.{Keeper}
 use Rattle.admin_door.specs.Running.{RunsOver}
 use Rattle.admin_door.proofs.Running.{runs-none}
-use Rattle.door_workers.specs.Visit.{Works}
-use Rattle.door_workers.specs.Administrators.{Office, VisitsOffice, EndsOffice, office_of}
+use Rattle.desk_server.specs.Visit.{Works}
+use Rattle.desk_server.specs.Administrators.{Office, VisitsOffice, EndsOffice, office_of}
 use Rattle.folder_runs.proofs.Mounting.{refuses-folder, refuses-count}
 use Rattle.serve_runs.specs.Crew.{ends_of}
 use Rattle.serve_runs.specs.Serving.{opening}

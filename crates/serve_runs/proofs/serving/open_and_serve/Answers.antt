@@ -4,8 +4,8 @@ use Rattle.std.proofs.lemmas.List.{with_items_is, places}
 use Rattle.link_ports.specs.Told.{AppendsTold}
 use Rattle.desk_state.specs.DeskState.{DeskState}
 use Rattle.server_hall.specs.StopNews.{unasked}
-use Rattle.door_workers.specs.Visit.{Works}
-use Rattle.door_workers.specs.Administrators.{VisitsOffice, EndsOffice, office_of}
+use Rattle.desk_server.specs.Visit.{Works}
+use Rattle.desk_server.specs.Administrators.{VisitsOffice, EndsOffice, office_of}
 use Rattle.serve_runs.specs.Crew.{doors_of, ends_of, is_lacking, is_alone, is_deserted}
 use Rattle.serve_runs.specs.Serving.{ClosesDoors}
 use Rattle.serve_runs.specs.parts.Crews.{duty_at, post_at, duties_in, duties_of, door_of, worker_lacked, CountsDoor, SawOnly}

@@ -1,5 +1,5 @@
 use Rattle.std.proofs.Common.{rules, Ok}
-use Rattle.wire_messages.proofs.FrameLaws.{is_read_again}
+use Rattle.wire_reading.proofs.FrameLaws.{is_read_again}
 use Rattle.wire_messages.proofs.encoding.encode.Goals as goal
 
 pub returns-clause-again : goal.returns-clause-again

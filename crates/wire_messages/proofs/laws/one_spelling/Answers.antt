@@ -1,4 +1,4 @@
-use Rattle.wire_messages.proofs.FrameLaws.{one_spelling}
+use Rattle.wire_reading.proofs.FrameLaws.{one_spelling}
 use Rattle.wire_messages.proofs.laws.one_spelling.Goals as goal
 
 pub returns : goal.returns

@@ -1,5 +1,5 @@
 use Rattle.std.proofs.Common.{◌++◌}
-use Rattle.wire_messages.proofs.Streams.{hears_more, hears_then}
+use Rattle.wire_reading.proofs.Streams.{hears_more, hears_then}
 use Rattle.wire_messages.proofs.laws.pieces_do_not_matter.Goals as goal
 
 pub returns : goal.returns

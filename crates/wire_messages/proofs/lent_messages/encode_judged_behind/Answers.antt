@@ -7,11 +7,13 @@ use Rattle.wire_messages.proofs.lent_messages.encode_judged_behind.Goals as goal
 pub returns-in-Ok-clause-heard : goal.returns-in-Ok-clause-heard
 returns-in-Ok-clause-heard c =
     let small : c.args.sequence < 2 ^ 16 = omega arith in
-    verdict_heard c.args.sequence (record { commit = c.args.commit; answer = answer_of (outcome_lent c.args.answer.now) })
+    verdict_heard c.args.sequence
+    (record { commit = c.args.commit; answer = answer_of (outcome_lent c.args.answer.now) })
     small c.answer_is_right.ensures
 
 pub returns-in-Err-clause-heard : goal.returns-in-Err-clause-heard
 returns-in-Err-clause-heard c =
     let small : c.args.sequence < 2 ^ 16 = omega arith in
-    verdict_heard c.args.sequence (record { commit = c.args.commit; answer = answer_of (outcome_lent c.args.answer.now) })
+    verdict_heard c.args.sequence
+    (record { commit = c.args.commit; answer = answer_of (outcome_lent c.args.answer.now) })
     small c.answer_is_right.ensures

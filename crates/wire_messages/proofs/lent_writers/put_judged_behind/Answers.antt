@@ -1,7 +1,7 @@
 use Rattle.std.proofs.Common.{rules, ◌≡◌, ℕ, ◌+◌, List, ◌++◌, ◌∷◌, length, ap, ◌∙◌}
 use Rattle.bucket_eval.specs.Found.{answer_of}
 use Rattle.bucket_eval.specs.Lent.{outcome_lent}
-use Rattle.wire_messages.specs.Format.{text}
+use Rattle.wire_fields.specs.Format.{text}
 use Rattle.bucket_eval.specs.declared.answers.Verdict.{Verdict}
 use Rattle.wire_messages.proofs.Lending.{verdict_short}
 use Rattle.wire_messages.proofs.Behind.{head, key_few, parts_are}

@@ -1,7 +1,7 @@
 use Rattle.std.proofs.Common.{◌≡◌, ◌++◌, length, take}
 use Rattle.std.specs.Int.{w32, to_be_bytes}
 use Rattle.std.specs.List.{flat_map}
-use Rattle.wire_messages.specs.Field.{change}
+use Rattle.wire_fields.specs.Field.{change}
 use Rattle.wire_messages.proofs.list_writers.put_changes.Given as goal
 
 abbrev pub invariant-loop-change : goal.invariant-loop-change

@@ -1,8 +1,8 @@
 use Rattle.std.proofs.Common.{◌++◌, ◌≡◌, rules}
 use Rattle.std.specs.Int.{w64, to_be_bytes}
-use Rattle.wire_messages.specs.Field.{ruling, bucket, optional, row}
-use Rattle.wire_messages.specs.Appended.{Appended}
-use Rattle.wire_messages.proofs.Appending.{then_last}
+use Rattle.wire_fields.specs.Field.{ruling, bucket, optional, row}
+use Rattle.wire_fields.specs.Appended.{Appended}
+use Rattle.wire_fields.proofs.Appending.{then_last}
 use Rattle.wire_messages.proofs.list_writers.put_verdict.Goals as goal
 
 pub returns : goal.returns

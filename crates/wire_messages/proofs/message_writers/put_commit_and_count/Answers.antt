@@ -1,5 +1,5 @@
 use Rattle.std.specs.Int.{w32, w64, to_be_bytes}
-use Rattle.wire_messages.proofs.Appending.{then_last}
+use Rattle.wire_fields.proofs.Appending.{then_last}
 use Rattle.wire_messages.proofs.message_writers.put_commit_and_count.Goals as goal
 
 pub returns : goal.returns

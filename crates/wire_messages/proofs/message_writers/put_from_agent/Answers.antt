@@ -1,7 +1,7 @@
 use Rattle.std.proofs.Common.{◌++◌}
 use Rattle.std.specs.Int.{w16, w32, w64, to_be_bytes}
-use Rattle.wire_messages.specs.Format.{flag}
-use Rattle.wire_messages.proofs.Appending.{then_last}
+use Rattle.wire_fields.specs.Format.{flag}
+use Rattle.wire_fields.proofs.Appending.{then_last}
 use Rattle.wire_messages.proofs.message_writers.put_from_agent.Goals as goal
 
 pub returns : goal.returns

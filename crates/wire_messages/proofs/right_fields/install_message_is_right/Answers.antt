@@ -1,7 +1,7 @@
 use Rattle.std.proofs.Common.{◌^◌, ◌<◌, Bool, true, false, cond, length}
 use Rattle.app_registry.specs.declared.installs.Install.{Install}
-use Rattle.wire_messages.specs.declared.messages.Message.TheVariants as message
-use Rattle.wire_messages.specs.Right.{IsInstall, IsRight, HasRoom}
+use Rattle.wire_fields.specs.declared.messages.Message.TheVariants as message
+use Rattle.wire_fields.specs.Right.{IsInstall, IsRight, HasRoom}
 use Rattle.wire_messages.proofs.right_fields.install_message_is_right.Goals as goal
 
 -- by the kind of the package

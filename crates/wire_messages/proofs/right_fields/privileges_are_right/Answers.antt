@@ -1,5 +1,5 @@
 use Rattle.std.proofs.Common.{rules}
-use Rattle.wire_messages.proofs.Rises.{rises_from_sorted}
+use Rattle.wire_reading.proofs.Rises.{rises_from_sorted}
 use Rattle.wire_messages.proofs.right_fields.privileges_are_right.Goals as goal
 
 pub returns : goal.returns

@@ -1,8 +1,8 @@
 use Rattle.std.proofs.Common.{◌≡◌, List}
 use Rattle.run_endings.specs.Outside.{sink_seen}
-use Rattle.wire_messages.specs.Stream.{unfed}
-use Rattle.wire_messages.specs.declared.messages.Framed.{Framed}
-use Rattle.wire_messages.specs.declared.operations.Heard.TheVariants.{AgentReplies}
+use Rattle.wire_reading.specs.Stream.{unfed}
+use Rattle.wire_fields.specs.declared.messages.Framed.{Framed}
+use Rattle.wire_fields.specs.declared.operations.Heard.TheVariants.{AgentReplies}
 use Rattle.agent_runs.specs.LinkSeen.{link_seen}
 use Rattle.agent_runs.specs.parts.Turns.{Turned}
 use Rattle.agent_runs.proofs.agents.Agent.answer_all.Given as goal

@@ -1,6 +1,6 @@
 use Rattle.std.proofs.Common.{[], ◌∷◌, Option, refl, sym, ap, subst}
 use Rattle.link_ports.specs.LinkMarks.{LinkMarks}
-use Rattle.wire_messages.specs.Stream.{Feeding}
+use Rattle.wire_reading.specs.Stream.{Feeding}
 use Rattle.client_door.specs.Reading.{cause_at}
 use Rattle.client_door.specs.Recording.{Recording}
 use Rattle.client_door.specs.Serving.{recorded_side}

@@ -1,5 +1,5 @@
 use Rattle.std.proofs.Common.{◌∙◌, sym, ap, subst}
-use Rattle.wire_messages.specs.Stream.{Feeding}
+use Rattle.wire_reading.specs.Stream.{Feeding}
 use Rattle.door_frames.specs.Hearing.{IsSound}
 use Rattle.client_door.specs.Serving.{recorded_side}
 use Rattle.client_door.proofs.Steps.{takes_check}

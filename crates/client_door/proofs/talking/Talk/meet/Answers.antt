@@ -1,5 +1,5 @@
 use Rattle.std.proofs.Common.{rules, ◌≡◌, ◌∙◌, List, ℕ, [], ◌∷◌, length, refl, sym, ap, subst}
-use Rattle.wire_messages.specs.Stream.{Feeding}
+use Rattle.wire_reading.specs.Stream.{Feeding}
 use Rattle.door_frames.specs.Hearing.{HearsMore}
 use Rattle.client_door.specs.parts.Talk.{IsClean, Stands, Meets, with_read}
 use Rattle.client_door.proofs.Steps.{hears_whole, hears_rest, meets_piece}

@@ -1,6 +1,6 @@
 use Rattle.std.proofs.Common.{◌∙◌, [], take, refl, sym, ap, subst}
 use Rattle.link_ports.specs.LinkMarks.{LinkMarks}
-use Rattle.wire_messages.specs.Stream.{Feeding}
+use Rattle.wire_reading.specs.Stream.{Feeding}
 use Rattle.client_door.specs.parts.Talk.{HasPiece, with_sent}
 use Rattle.client_door.proofs.Ending.{ends_for_fault, sends_and_receives, sends_and_ends}
 use Rattle.client_door.proofs.talking.Talk.send_and_receive.Goals as goal

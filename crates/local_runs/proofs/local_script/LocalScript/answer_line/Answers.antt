@@ -18,5 +18,6 @@ returns-in-Some-clause-line g c =
     let same : asked.reader ≡ old.reader = ap (λ (script : LocalScript). script.reader) c.answer_check.ensures.same in
     let shares : asked.shares ≡ old.shares = ap (λ (script : LocalScript). script.shares) c.answer_check.ensures.same in
     let text : asked.answers ≡ old.answers ++ reply desk old.shares (Check c.in-Some.question) = search rules in
-    subst (λ (after : Option (List ℕ)). AnswersLine taken after old new desk desk c.args.line.now) (sym c.tell_of_check.ensures.taken)
+    subst (λ (after : Option (List ℕ)). AnswersLine taken after old new desk desk c.args.line.now)
+    (sym c.tell_of_check.ensures.taken)
     (answers-check taken old new desk c.args.line.now c.in-Some.question reads same shares text)

@@ -18,7 +18,8 @@ returns-in-Err-clause-turn g c =
     let left = g.S.Source.left c.args.source.now in
     let left_after = g.S.Source.left c.next.new.source in
     let handed = subst
-    (λ taken. HandsOver (g.K.Sink.taken c.args.sink.now) taken c.args.self.now c.hand_over.new.self c.args.lines.now (Ok tt))
+    (λ taken. HandsOver (g.K.Sink.taken c.args.sink.now) taken c.args.self.now c.hand_over.new.self c.args.lines.now
+    (Ok tt))
     (sym c.note_past_limit.ensures.taken) c.in_ok-hand_over.ensures.handed in
     rw c.from.ensures
     (Turns-refused _ _ _ _ c.args.self.now c.hand_over.new.self c.args.keeper.now.desk c.args.lines.now c.next.new.self
@@ -31,7 +32,8 @@ pub returns-then-not-has_line-clause-turn : goal.returns-then-not-has_line-claus
 returns-then-not-has_line-clause-turn g c =
     let left = g.S.Source.left c.args.source.now in
     let left_after = g.S.Source.left c.next.new.source in
-    let ends = subst (λ found. HandsOutNext left left_after c.hand_over.new.lines c.next.new.self (Ok found)) c.if-not-has_line.true
+    let ends = subst (λ found. HandsOutNext left left_after c.hand_over.new.lines c.next.new.self
+    (Ok found)) c.if-not-has_line.true
     c.in-Ok.ensures.next in
     Turns-ended _ _ _ _ c.args.self.now c.hand_over.new.self c.args.keeper.now.desk c.args.lines.now c.next.new.self
     c.in_ok-hand_over.ensures.handed
@@ -43,7 +45,8 @@ returns-in_err-answer_line-clause-turn g c =
     let exit = err_from_is_err_and c.from_residual-in_err-answer_line.result c.from_residual-in_err-answer_line.ensures.1 in
     let left = g.S.Source.left c.args.source.now in
     let left_after = g.S.Source.left c.next.new.source in
-    let line = subst (λ found. HandsOutNext left left_after c.hand_over.new.lines c.next.new.self (Ok found)) c.if-not-has_line.false
+    let line = subst (λ found. HandsOutNext left left_after c.hand_over.new.lines c.next.new.self
+    (Ok found)) c.if-not-has_line.false
     c.in-Ok.ensures.next in
     rw (exit.1, exit.2)
     (Turns-unanswered _ _ _ _ c.args.self.now c.hand_over.new.self c.args.keeper.now.desk c.args.lines.now c.next.new.self
@@ -56,7 +59,8 @@ pub returns-clause-turn : goal.returns-clause-turn
 returns-clause-turn g c =
     let left = g.S.Source.left c.args.source.now in
     let left_after = g.S.Source.left c.next.new.source in
-    let line = subst (λ found. HandsOutNext left left_after c.hand_over.new.lines c.next.new.self (Ok found)) c.if-not-has_line.false
+    let line = subst (λ found. HandsOutNext left left_after c.hand_over.new.lines c.next.new.self
+    (Ok found)) c.if-not-has_line.false
     c.in-Ok.ensures.next in
     Turns-answered _ _ _ _ c.args.self.now c.hand_over.new.self c.args.keeper.now.desk c.args.lines.now c.next.new.self
     c.in_ok-hand_over.ensures.handed _ c.answer_line.new.self _

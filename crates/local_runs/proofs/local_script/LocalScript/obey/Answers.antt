@@ -7,7 +7,8 @@ use Rattle.line_script.specs.declared.steps.Step.TheVariants.{Command}
 use Rattle.private_sharing.specs.Shares.{settled}
 use Rattle.script_replies.specs.Reply.{done_text}
 use Rattle.script_replies.proofs.Refusing.{refused-rule}
-use Rattle.local_runs.proofs.Obeying.{hands-all, hands-none, answers-refusal, answers-command, refuses-unflushed, disk-unflushed}
+use Rattle.local_runs.proofs.Obeying.{hands-all, hands-none, answers-refusal, answers-command, refuses-unflushed}
+use Rattle.local_runs.proofs.Obeying.{disk-unflushed}
 use Rattle.local_runs.proofs.local_script.LocalScript.obey.Goals as goal
 
 pub returns-in-Err-clause-step : goal.returns-in-Err-clause-step
@@ -69,7 +70,8 @@ pub returns-in-Ok-commit-clause-step : goal.returns-in-Ok-commit-clause-step
 returns-in-Ok-commit-clause-step g c =
     let flushed = c.in_ok-flush.ensures.flush in
     let then = c.desk-2.ensures ∙ c.in-Ok.ensures.desk in
-    let registry = c.registry.ensures.registry ∙ ap (λ (desk : DeskState). desk.registry) (c.desk.ensures ∙ c.in-Ok.ensures.desk) in
+    let registry = c.registry.ensures.registry
+    ∙ ap (λ (desk : DeskState). desk.registry) (c.desk.ensures ∙ c.in-Ok.ensures.desk) in
     let shares = c.in_ok-shares.ensures
     ∙ (ap (λ (registry : RegistryLists). settled registry c.flush.new.self.shares) registry
     ∙ ap (settled (next c.args.keeper.now.desk c.args.command.now).registry) flushed.2.shares) in

@@ -11,5 +11,6 @@ returns-in-Ok c =
     let lines : c.put_deny.new.line ∷ [] ≡ denial app =
     ap (λ (line : List ℕ). line ∷ []) c.in-Ok.ensures
     ∙ ap (λ (b : Bool). cond b (deny_line app ∷ []) []) (sym third) in
-    subst (λ (lines : List (List ℕ)). Goes follow_line lines (stand_of c.args.self.now) (stand_of c.follow.new.self) c.follow.result)
+    subst (λ (lines : List (List ℕ)). Goes follow_line lines (stand_of c.args.self.now)
+    (stand_of c.follow.new.self) c.follow.result)
     lines c.follow.ensures

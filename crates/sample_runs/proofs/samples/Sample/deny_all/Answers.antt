@@ -13,18 +13,21 @@ apps-init c = record {
 
 pub apps-preserved : goal.apps-preserved
 apps-preserved c = record {
-  goes = goes-turn follow_line denials denial (stand_of c.args.self.now) c.args.count (λ app. refl) (λ app left. refl) c.apps.app
+  goes = goes-turn follow_line denials denial (stand_of c.args.self.now) c.args.count (λ app. refl)
+      (λ app left. refl) c.apps.app
       (stand_of c.apps.self) (stand_of c.deny.new.self) c.apps-test.true c.apps.invariant.goes c.in-Ok.ensures;
   within = omega (arith, c.apps-test.true);
 }
 
 pub returns-in-Err : goal.returns-in-Err
 returns-in-Err c =
-    stops-turn follow_line denials denial (stand_of c.args.self.now) c.args.count (λ app. refl) (λ app left. refl) c.apps.app
+    stops-turn follow_line denials denial (stand_of c.args.self.now) c.args.count (λ app. refl)
+    (λ app left. refl) c.apps.app
     (stand_of c.apps.self) (stand_of c.deny.new.self) c.in-Err.ending c.apps-test.true c.apps.invariant.goes c.in-Err.ensures
 
 pub returns : goal.returns
 returns c =
     let done : c.args.count - c.apps.app ≡ 0 = omega (arith, c.apps-test.false) in
-    goes-all follow_line denials denial (stand_of c.args.self.now) c.args.count (λ app. refl) (λ app left. refl) c.apps.app
+    goes-all follow_line denials denial (stand_of c.args.self.now) c.args.count (λ app. refl)
+    (λ app left. refl) c.apps.app
     (stand_of c.apps.self) done c.apps.invariant.goes

@@ -13,8 +13,10 @@ apps-init c = record {
 
 pub apps-preserved : goal.apps-preserved
 apps-preserved c = record {
-  goes = goes-turn follow_line installs (λ app. install_line app ∷ []) (stand_of c.args.self.now) c.args.count (λ app. refl)
-      (λ app left. refl) c.apps.app (stand_of c.apps.self) (stand_of c.install.new.self) c.apps-test.true c.apps.invariant.goes
+  goes = goes-turn follow_line installs (λ app. install_line app ∷ []) (stand_of c.args.self.now) c.args.count
+      (λ app. refl)
+      (λ app left. refl) c.apps.app (stand_of c.apps.self)
+      (stand_of c.install.new.self) c.apps-test.true c.apps.invariant.goes
       c.in-Ok.ensures;
   within = omega (arith, c.apps-test.true);
 }

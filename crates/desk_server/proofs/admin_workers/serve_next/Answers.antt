@@ -1,0 +1,91 @@
+use Rattle.std.proofs.Common.{◌∙◌, ◌++◌, []}
+use Rattle.server_hall.specs.Tally.{no_calls}
+use Rattle.admin_door.specs.Serving.{talk_of}
+use Rattle.admin_door.specs.Running.{RunsOver}
+use Rattle.admin_door.proofs.Running.{runs-then}
+use Rattle.desk_server.specs.Visit.{Visit, GoesOnTold}
+use Rattle.desk_server.specs.Administrators.{VisitsOffice, EndsOffice, office_of, side_in}
+use Rattle.desk_server.proofs.Visits.{goes_on, stops_as, refused, goes_told, ends_office, behind_counts, refused_office}
+use Rattle.desk_server.proofs.Visits.{visit_frames}
+use Rattle.desk_server.proofs.admin_workers.serve_next.Goals as goal
+
+pub returns-in-Err-clause-worked : goal.returns-in-Err-clause-worked
+returns-in-Err-clause-worked g c first start given count told (frames, so_far, runs) = (
+  frames,
+  refused (VisitsOffice g.L.Link.traffic g.L.Link.marks g.L.Link.faults) g.L.Link.marks g.L.Link.faults
+      start (office_of g.D.Disk.faults c.args.keeper.now c.args.publisher.now frames)
+      given (g.E.Door.given_back c.args.door.now) (g.E.Door.given_back c.accept.new.door)
+      count (g.E.Door.faults c.args.door.now) (g.E.Door.faults c.accept.new.door) c.in-Err.end
+      (GoesOnTold told c.args.news.now) (EndsOffice told c.args.news.now)
+      so_far (refused_office told c.args.news.now c.in-Err.end c.in-Err.ensures.count.0) c.accept.ensures.kept
+      c.in-Err.ensures.count,
+  runs,
+)
+
+pub returns-in-Some-clause-worked : goal.returns-in-Some-clause-worked
+returns-in-Some-clause-worked g c first start given count told (frames, so_far, runs) =
+    let visit : Visit g.row.L.Denot =
+    record { accepted = c.in-Ok.link; returned = c.serve_admin-ended.new.link; ended = c.serve_admin-ended.result } in
+    let (tally, served, adds) = c.serve_admin-ended.ensures.served in
+    let office = office_of g.D.Disk.faults c.args.keeper.now c.args.publisher.now [] in
+    let office_now =
+    office_of g.D.Disk.faults c.serve_admin-ended.new.keeper c.serve_admin-ended.new.publisher [] in
+    let (more, keeps, behind) = visit_frames
+    (talk_of (side_in office no_calls) (g.L.Link.traffic c.in-Ok.link) (g.L.Link.marks c.in-Ok.link)
+    (g.L.Link.faults c.in-Ok.link))
+    (talk_of (side_in office_now tally) (g.L.Link.traffic c.serve_admin-ended.new.link)
+    (g.L.Link.marks c.serve_admin-ended.new.link)
+    (g.L.Link.faults c.serve_admin-ended.new.link))
+    c.serve_admin-ended.result
+    (RunsOver g.D.Disk.state g.D.Disk.moment g.D.Disk.left_since c.args.keeper.now c.serve_admin-ended.new.keeper)
+    served in (
+      frames ++ more,
+      stops_as (VisitsOffice g.L.Link.traffic g.L.Link.marks g.L.Link.faults) g.L.Link.marks g.L.Link.faults
+          start (office_of g.D.Disk.faults c.args.keeper.now c.args.publisher.now frames)
+          (office_of g.D.Disk.faults c.serve_admin-ended.new.keeper c.serve_admin-ended.new.publisher (frames ++ more))
+          given (g.E.Door.given_back c.args.door.now) (g.E.Door.given_back c.accept.new.door)
+          (g.E.Door.given_back c.give_back.new.self)
+          count (g.E.Door.faults c.args.door.now) (g.E.Door.faults c.give_back.new.self)
+          visit (GoesOnTold told c.args.news.now) c.in-Some.end (EndsOffice told c.end_behind.new.news)
+          so_far (c.in-Ok.ensures.unmarked, c.in-Ok.ensures.fresh) (c.in-Ok.ensures.silent, (tally, behind frames))
+          (ends_office told c.args.news.now c.end_behind.new.news c.in-Some.end visit c.in-Some.ensures.over)
+          (behind_counts c.in-Some.end c.serve_admin-ended.result c.args.news.now c.end_behind.new.news
+          c.in-Some.ensures.over)
+          c.accept.ensures.kept c.give_back.ensures.given
+          (c.give_back.ensures.count ∙ c.in-Ok.ensures.count),
+      runs-then g.D.Disk.state g.D.Disk.moment g.D.Disk.left_since first c.args.keeper.now
+          c.serve_admin-ended.new.keeper frames more runs keeps,
+    )
+
+pub returns-clause-worked : goal.returns-clause-worked
+returns-clause-worked g c first start given count told (frames, so_far, runs) =
+    let visit : Visit g.row.L.Denot =
+    record { accepted = c.in-Ok.link; returned = c.serve_admin-ended.new.link; ended = c.serve_admin-ended.result } in
+    let (tally, served, adds) = c.serve_admin-ended.ensures.served in
+    let office = office_of g.D.Disk.faults c.args.keeper.now c.args.publisher.now [] in
+    let office_now =
+    office_of g.D.Disk.faults c.serve_admin-ended.new.keeper c.serve_admin-ended.new.publisher [] in
+    let (more, keeps, behind) = visit_frames
+    (talk_of (side_in office no_calls) (g.L.Link.traffic c.in-Ok.link) (g.L.Link.marks c.in-Ok.link)
+    (g.L.Link.faults c.in-Ok.link))
+    (talk_of (side_in office_now tally) (g.L.Link.traffic c.serve_admin-ended.new.link)
+    (g.L.Link.marks c.serve_admin-ended.new.link)
+    (g.L.Link.faults c.serve_admin-ended.new.link))
+    c.serve_admin-ended.result
+    (RunsOver g.D.Disk.state g.D.Disk.moment g.D.Disk.left_since c.args.keeper.now c.serve_admin-ended.new.keeper)
+    served in (
+      frames ++ more,
+      goes_on (VisitsOffice g.L.Link.traffic g.L.Link.marks g.L.Link.faults) g.L.Link.marks g.L.Link.faults
+          start (office_of g.D.Disk.faults c.args.keeper.now c.args.publisher.now frames)
+          (office_of g.D.Disk.faults c.serve_admin-ended.new.keeper c.serve_admin-ended.new.publisher (frames ++ more))
+          given (g.E.Door.given_back c.args.door.now) (g.E.Door.given_back c.accept.new.door)
+          (g.E.Door.given_back c.give_back.new.self)
+          count (g.E.Door.faults c.args.door.now) (g.E.Door.faults c.give_back.new.self)
+          visit (GoesOnTold told c.args.news.now) (GoesOnTold told c.end_behind.new.news)
+          so_far (c.in-Ok.ensures.unmarked, c.in-Ok.ensures.fresh) (c.in-Ok.ensures.silent, (tally, behind frames))
+          (goes_told told c.args.news.now c.end_behind.new.news visit c.in-None.ensures.on)
+          c.accept.ensures.kept c.give_back.ensures.given
+          (c.give_back.ensures.count ∙ c.in-Ok.ensures.count),
+      runs-then g.D.Disk.state g.D.Disk.moment g.D.Disk.left_since first c.args.keeper.now
+          c.serve_admin-ended.new.keeper frames more runs keeps,
+    )

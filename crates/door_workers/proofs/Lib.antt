@@ -1,4 +1,0 @@
-pub mod Visits
-pub mod Offices
-pub mod Watched
-pub mod Forgetting

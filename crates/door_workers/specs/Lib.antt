@@ -1,6 +1,0 @@
-pub mod Visit
-pub mod Clients
-pub mod Monitored
-pub mod Agents
-pub mod Administrators
-pub mod parts

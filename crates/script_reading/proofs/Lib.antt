@@ -1,4 +1,0 @@
-pub mod Lines
-pub mod Going
-pub mod Ending
-pub mod NextLines

@@ -1,0 +1,6 @@
+use Rattle.std.proofs.Common.{arith}
+use Rattle.wire_fields.proofs.VisibleLanes.{visible_from_lanes}
+use Rattle.wire_fields.proofs.name_texts.visible_8.Goals as goal
+
+pub returns : goal.returns
+returns c = visible_from_lanes c.args.bytes.now c.args.at 8 c.requires (omega arith)

@@ -1,0 +1,11 @@
+pub mod Limits
+pub mod Left
+pub mod Format
+pub mod Field
+pub mod Refused
+pub mod Operation
+pub mod Message
+pub mod Right
+pub mod Appended
+pub mod Packed
+pub mod parts

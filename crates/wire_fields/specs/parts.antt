@@ -1,0 +1,2 @@
+pub mod FiveTexts
+pub mod Visible

@@ -1,6 +1,0 @@
-use Rattle.std.proofs.Common.{[], arith, rules}
-use Rattle.wire_messages.proofs.Settling.{short_open}
-use Rattle.wire_messages.proofs.feeding.Feeder.feed.Goals as goal
-
-pub invariant_of-self : goal.invariant_of-self
-invariant_of-self c = (rw c.clear.ensures (short_open c.self-2.inside.heard [] (omega arith)), search rules)

@@ -1,9 +1,0 @@
-use Rattle.std.proofs.Common.{◌≡◌, ◌-◌}
-use Rattle.wire_messages.specs.Format.{each}
-use Rattle.wire_messages.specs.Field.{change}
-use Rattle.wire_messages.proofs.Loops.{with_front}
-use Rattle.wire_messages.proofs.list_readers.changes.Given as goal
-
-abbrev pub invariant-loop : goal.invariant-loop
-invariant-loop l =
-    with_front l.list.items (each change (l.count - l.counter) l.fields) ≡ each change l.fn.count l.fn.fields

@@ -1,6 +1,0 @@
-use Rattle.std.proofs.Common.{arith}
-use Rattle.wire_messages.proofs.VisibleLanes.{visible_from_lanes}
-use Rattle.wire_messages.proofs.name_texts.visible_4.Goals as goal
-
-pub returns : goal.returns
-returns c = visible_from_lanes c.args.bytes.now c.args.at 4 c.requires (omega arith)

@@ -1,0 +1,5 @@
+pub mod Frame
+pub mod Hearing
+pub mod Lent
+pub mod Stream
+pub mod parts
