@@ -50,7 +50,7 @@ shows old desk = record {
 none : (old now : AdminSide) → Adds old now [] → AddsAtMost 0 old now
 none old now adds = ([], omega arith, adds)
 
-still : (old now : AdminSide) → now ≡ old → AddsAtMost 0 old now
+pub still : (old now : AdminSide) → now ≡ old → AddsAtMost 0 old now
 still old now is =
     subst (λ (side : AdminSide). AddsAtMost 0 old side) (sym is)
     (none old old (changes old old.desk old.decided old.faults old.tally.stop_calls))
@@ -97,7 +97,7 @@ shown-one : (newer : Bool) (side : AdminSide) → AddsAtMost 1 side (cond newer 
 shown-one true side = (side.desk ∷ [], omega arith, shows side side.desk)
 shown-one false side = at-most 0 1 side side (omega arith) (still side side refl)
 
-settles-one : (told : Option DiskState) (old now : AdminSide) → Settles told old now → AddsAtMost 1 old now
+pub settles-one : (told : Option DiskState) (old now : AdminSide) → Settles told old now → AddsAtMost 1 old now
 settles-one told old now settles =
     at-most-then 0 1 old settles.found now (found-none told old settles.found settles.is_found)
     (subst (λ (side : AdminSide). AddsAtMost 1 settles.found side) (sym settles.shown)
@@ -231,13 +231,13 @@ answers-acknowledged told found message old now replies command commit erased an
 
 -- ---- a connection
 
-some-of : (most : ℕ) (old now : AdminSide) → AddsAtMost most old now → AddsSome old now
+pub some-of : (most : ℕ) (old now : AdminSide) → AddsAtMost most old now → AddsSome old now
 some-of most old now (more, count, adds) = (more, adds)
 
-some-then : (a b c : AdminSide) → AddsSome a b → AddsSome b c → AddsSome a c
+pub some-then : (a b c : AdminSide) → AddsSome a b → AddsSome b c → AddsSome a c
 some-then a b c (xs, first) (ys, then) = (xs ++ ys, adds-then a b c xs ys first then)
 
-answered-some : (start : AdminSide) (exchanges : List Exchange) (now : AdminSide) → AreAnswered start exchanges now → AddsSome start now
+pub answered-some : (start : AdminSide) (exchanges : List Exchange) (now : AdminSide) → AreAnswered start exchanges now → AddsSome start now
 answered-some start [] now is = some-of 0 start now (still start now is)
 answered-some start (exchange ∷ more) now (between, one, others) =
     some-then start between now
@@ -245,7 +245,7 @@ answered-some start (exchange ∷ more) now (between, one, others) =
     (answers-two exchange.told (command_of exchange.framed.message) exchange.framed.message start between exchange.replies one))
     (answered-some between more now others)
 
-ending-some : (ended : Ended) (between now : AdminSide) (last : List Exchange) (bytes : List ℕ)
+pub ending-some : (ended : Ended) (between now : AdminSide) (last : List Exchange) (bytes : List ℕ)
     → EndsAnswering ended between now last bytes → AddsSome between now
 ending-some ended between now last bytes (inl (no_frame, no_byte, is)) = some-of 0 between now (still between now is)
 ending-some ended between now last bytes (inr (inl (exchange, frame, byte, reply, refuses))) =

@@ -12,13 +12,14 @@ ghost use Rattle.live_desk.specs.History.{last_commit};
 ghost use Rattle.server_hall.specs.Tally.{Tally};
 ghost use Rattle.server_hall.specs.declared.calls.HallCall.{HallCall};
 ghost use Rattle.admin_door.specs.Side.{side_of, decided_of};
+ghost use Rattle.admin_door.specs.Hanging.{HangsOn};
 ghost use Rattle.admin_door.specs.Settling.{IsFound, Settles, Unsettles, IsStillDamaged, with_last_shown};
 ghost use Rattle.admin_door.specs.declared.settling.Unsettled.TheVariants.{Memory};
 
 use crate::publishing::show;
 use desk_keeper::{Keeper, KeeperRefusal};
 use desk_ports::{Disk, FileName};
-use live_desk::{Naming, Publisher};
+use live_desk::{Event, Events, Front, Naming, Publisher};
 use server_hall::Hall;
 use std::sync::Wait;
 
@@ -34,11 +35,13 @@ pub(crate) enum Unsettled {
 
 /// Remounts a keeper that is undecided; and publishes its state, and hangs up all older connections, where its commit
 /// is above that of the publisher. It may wait.
-pub(crate) fn settle<R: Wait, D: Disk, A: Hall, J: Naming>(
+#[tactic(auto, using(crate::proofs::Hanging::hangs_none))]
+pub(crate) fn settle<R: Wait, D: Disk, J: Naming, A: Hall<List = J>>(
     rt: &R,
     keeper: &mut Keeper<'_, D>,
     publisher: &mut Publisher<J>,
     hall: &mut A,
+    hangs: &mut Front<Event, Events<J>>,
 ) -> Result<(), Unsettled>
     requires { last_commit 0 publisher.old ≤ keeper.old.desk.commit }
     ensures settled { MatchResult result
@@ -60,13 +63,14 @@ pub(crate) fn settle<R: Wait, D: Disk, A: Hall, J: Naming>(
     ensures decided { OnOk result (decided_of keeper.new ≡ true) }
     ensures even { OnOk result (last_commit 0 publisher.new ≡ keeper.new.desk.commit) }
     ensures behind { OnErr result (last_commit 0 publisher.new ≤ keeper.new.desk.commit) }
+    ensures hangs { HangsOn publisher.old publisher.new hangs.old hangs.new }
     ensures same_disk { IsSameDisk keeper.old keeper.new }
 {
     if keeper.is_decided() {
-        return publish_kept(rt, keeper, publisher, hall);
+        return publish_kept(rt, keeper, publisher, hall, hangs);
     }
     match remount(keeper) {
-        Ok(()) => publish_kept(rt, keeper, publisher, hall),
+        Ok(()) => publish_kept(rt, keeper, publisher, hall, hangs),
         Err(reason) => Err(reason),
     }
 }
@@ -101,11 +105,13 @@ fn remount<D: Disk>(keeper: &mut Keeper<'_, D>) -> Result<(), Unsettled>
 }
 
 // Shows the state that the folder keeps to all, where it is newer than what was published.
-fn publish_kept<R: Wait, D: Disk, A: Hall, J: Naming>(
+#[tactic(auto, using(crate::proofs::Hanging::hangs_none))]
+fn publish_kept<R: Wait, D: Disk, J: Naming, A: Hall<List = J>>(
     rt: &R,
     keeper: &Keeper<'_, D>,
     publisher: &mut Publisher<J>,
     hall: &mut A,
+    hangs: &mut Front<Event, Events<J>>,
 ) -> Result<(), Unsettled>
     requires decided { decided_of keeper.now ≡ true }
     requires behind { last_commit 0 publisher.old ≤ keeper.now.desk.commit }
@@ -116,6 +122,7 @@ fn publish_kept<R: Wait, D: Disk, A: Hall, J: Naming>(
         ≡ side_of D.faults keeper.now publisher.old (A.tally hall.old) (A.calls hall.old))) }
     ensures even { OnOk result (last_commit 0 publisher.new ≡ keeper.now.desk.commit) }
     ensures behind { last_commit 0 publisher.new ≤ keeper.now.desk.commit }
+    ensures hangs { HangsOn publisher.old publisher.new hangs.old hangs.new }
 {
     if publisher.commit() >= keeper.desk().commit() {
         return Ok(());
@@ -123,7 +130,7 @@ fn publish_kept<R: Wait, D: Disk, A: Hall, J: Naming>(
     let Ok(ready) = publisher.prepare(keeper.desk()) else {
         return Err(Unsettled::Memory);
     };
-    match show(rt, keeper, publisher, hall, ready) {
+    match show(rt, keeper, publisher, hall, hangs, ready) {
         Ok(()) => Ok(()),
         Err(_) => Err(Unsettled::Memory),
     }

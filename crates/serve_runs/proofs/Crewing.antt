@@ -8,6 +8,7 @@ use Rattle.link_ports.specs.Traffic.{Traffic}
 use Rattle.link_ports.specs.LinkMarks.{LinkMarks}
 use Rattle.link_ports.specs.declared.door_kinds.DoorKind.{DoorKind}
 use Rattle.desk_state.specs.DeskState.{DeskState}
+use Rattle.live_roll.specs.declared.events.Event.{Event}
 use Rattle.live_desk.specs.Seat.{SeatState, new_seat, new_seats}
 use Rattle.server_hall.specs.StopNews.{StopsTold, unasked}
 use Rattle.desk_server.specs.Visit.{Works, EndsWorking, door_faults_after}
@@ -135,14 +136,15 @@ module _ {L J E X : Type 0} (traffic : L → Option Traffic) (marks : L → Link
 
 module _ {L J E X : Type 0} (traffic : L → Option Traffic) (marks : L → LinkMarks) (faults : L → ℕ)
     (given_back : E → Option (List L)) (door_faults : E → ℕ) (kind : E → Option DoorKind) (goes : X → X → Type 0)
-    (published : List DeskState) where
+    (published : List DeskState) (events : List Event) where
   works_for : (station now : Station J X) (end : WorkerEnd) (door door_now : E) (told : StopsTold) → door_faults door ≡ 0
       → WorksAt traffic marks faults given_back door_faults goes end station now door door_now unasked told
-      → HasSeenOf published (post_at now)
-      → WorksFor traffic marks faults given_back door_faults kind published (post_at station) end told (given_back door) door_now
+      → HasSeenOf published events (post_at now)
+      → WorksFor traffic marks faults given_back door_faults kind published events (post_at station) end told (given_back door) door_now
   works_for (Clients seat duty) (Clients seat_now duty_now) end door door_now told fresh (works, went_on) saw = (
     seat_now,
-    saw,
+    saw.0,
+    saw.1,
     subst (λ (count : ℕ). Works (VisitsClients traffic marks faults) (EndsWorking unasked told) marks faults end seat seat_now
         (given_back door) (given_back door_now) count (door_faults door_now)) fresh works,
   )
@@ -153,8 +155,8 @@ module _ {L J E X : Type 0} (traffic : L → Option Traffic) (marks : L → Link
   works_for Agents (Clients seat duty) end door door_now told fresh works saw = absurd works
 
   serves_one : (station : Station J X) (opened now : Worker J E X) → StandsAt given_back door_faults kind station opened
-      → (worked : HasWorked traffic marks faults given_back door_faults goes kind opened now) → SawOnly published now
-      → Serves traffic marks faults given_back door_faults kind published (post_at station) (record { end = worked.end; door = now.door })
+      → (worked : HasWorked traffic marks faults given_back door_faults goes kind opened now) → SawOnly published events now
+      → Serves traffic marks faults given_back door_faults kind published events (post_at station) (record { end = worked.end; door = now.door })
   serves_one station opened now stands worked saw =
       record {
         told = worked.told;
@@ -169,7 +171,7 @@ module _ {L J E X : Type 0} (traffic : L → Option Traffic) (marks : L → Link
   -- what a crew did that has ended
   pub record Ended (stations : List (Station J X)) (now : List (Worker J E X)) : Type 0 where
     pub crew : List (EndedWorker E)
-    pub serves : AllZip (Serves traffic marks faults given_back door_faults kind published) (map post_at stations) crew
+    pub serves : AllZip (Serves traffic marks faults given_back door_faults kind published events) (map post_at stations) crew
     pub doors : doors_of crew ≡ map door_of now
     pub lacks : lacks_memory (ends_of crew) ≡ list_any worker_lacked now
     pub duties : AllZip goes (duties_in (map duty_at stations)) (duties_of now)
@@ -185,7 +187,7 @@ module _ {L J E X : Type 0} (traffic : L → Option Traffic) (marks : L → Link
   pub all_ended : (stations : List (Station J X)) (opened now : List (Worker J E X))
       → AllZip (StandsAt given_back door_faults kind) stations opened
       → AllZip (HasWorked traffic marks faults given_back door_faults goes kind) opened now
-      → AllByRecursion (SawOnly published) now → Ended stations now
+      → AllByRecursion (SawOnly published events) now → Ended stations now
   all_ended [] [] [] stand worked saw = record { crew = []; serves = tt; doors = refl; lacks = refl; duties = tt }
   all_ended [] [] (w ∷ now) stand worked saw = absurd worked
   all_ended [] (o ∷ opened) now stand worked saw = absurd stand
@@ -212,15 +214,15 @@ alone_first alone false rest is none = is ∙ sym none
 
 module _ {L E : Type 0} (traffic : L → Option Traffic) (marks : L → LinkMarks) (faults : L → ℕ)
     (given_back : E → Option (List L)) (door_faults : E → ℕ) (kind : E → Option DoorKind) (published : List DeskState)
-    (before after : ℕ) where
+    (events : List Event) (before after : ℕ) where
   counted : (post : Option SeatState) (end : WorkerEnd) (told : StopsTold) (given : Option (List L)) (door : E)
-      → WorksFor traffic marks faults given_back door_faults kind published post end told given door → door_faults door ≡ door_faults_after end 0
-  counted (Some seat) end told given door (seat_now, saw, works) = works.counted
+      → WorksFor traffic marks faults given_back door_faults kind published events post end told given door → door_faults door ≡ door_faults_after end 0
+  counted (Some seat) end told given door (seat_now, saw, knew, works) = works.counted
   counted None end told given door works = works.counted
 
   never_alone : (post : Option SeatState) (end : WorkerEnd) (told : StopsTold) (given : Option (List L)) (door : E)
-      → WorksFor traffic marks faults given_back door_faults kind published post end told given door → is_alone end ≡ false
-  never_alone (Some seat) Alone told given door (seat_now, saw, works) = absurd works.ending
+      → WorksFor traffic marks faults given_back door_faults kind published events post end told given door → is_alone end ≡ false
+  never_alone (Some seat) Alone told given door (seat_now, saw, knew, works) = absurd works.ending
   never_alone None Alone told given door works = absurd works.ending
   never_alone post Stopped told given door works = refl
   never_alone post DoorFailed told given door works = refl
@@ -229,7 +231,7 @@ module _ {L E : Type 0} (traffic : L → Option Traffic) (marks : L → LinkMark
 
   -- no worker of clients or of agents ends alone
   pub none_alone : (posts : List (Option SeatState)) (crew : List (EndedWorker E))
-      → AllZip (Serves traffic marks faults given_back door_faults kind published) posts crew → is_deserted (ends_of crew) ≡ false
+      → AllZip (Serves traffic marks faults given_back door_faults kind published events) posts crew → is_deserted (ends_of crew) ≡ false
   none_alone [] [] serve = refl
   none_alone [] (w ∷ crew) serve = absurd serve
   none_alone (post ∷ posts) [] serve = absurd serve
@@ -238,7 +240,7 @@ module _ {L E : Type 0} (traffic : L → Option Traffic) (marks : L → LinkMark
 
   -- Each door of a worker that ended since its door failed raised the count of its net.
   pub failed_all : (posts : List (Option SeatState)) (crew : List (EndedWorker E))
-      → AllZip (Serves traffic marks faults given_back door_faults kind published) posts crew
+      → AllZip (Serves traffic marks faults given_back door_faults kind published events) posts crew
       → AllByRecursion (λ (door : E). CountsDoor (door_faults door) before after) (doors_of crew)
       → AllByRecursion (λ (end : WorkerEnd). end ≡ DoorFailed → HasRisen before after) (ends_of crew)
   failed_all [] [] serve counts = tt

@@ -1,12 +1,14 @@
 -- What the workers of clients and of agents do in a service, each at a door of its own.
 use Rattle.std.specs.Prelude.{◌≡◌, ℕ, Bool, true, false, List, [], ◌++◌, map, replicate, Option, Some, None}
 use Rattle.std.specs.List.{list_any}
+use mathlib.Core.List.{IsPrefix}
 use Rattle.link_ports.specs.Told.{IfTold}
 use Rattle.link_ports.specs.Traffic.{Traffic}
 use Rattle.link_ports.specs.LinkMarks.{LinkMarks}
 use Rattle.link_ports.specs.declared.door_kinds.DoorKind.{DoorKind}
 use Rattle.link_ports.specs.declared.door_kinds.DoorKind.TheVariants.{Client, Agent}
 use Rattle.desk_state.specs.DeskState.{DeskState}
+use Rattle.live_roll.specs.declared.events.Event.{Event}
 use Rattle.live_desk.specs.History.{GoesOn}
 use Rattle.live_desk.specs.Seat.{SeatState, new_seats}
 use Rattle.server_hall.specs.StopNews.{StopsTold, unasked}
@@ -58,13 +60,16 @@ abbrev pub is_deserted : List WorkerEnd → Bool
 is_deserted ends = list_any is_alone ends
 
 module _ {L E : Type 0} (traffic : L → Option Traffic) (marks : L → LinkMarks) (faults : L → ℕ)
-    (given_back : E → Option (List L)) (door_faults : E → ℕ) (kind : E → Option DoorKind) (published : List DeskState) where
+    (given_back : E → Option (List L)) (door_faults : E → ℕ) (kind : E → Option DoorKind) (published : List DeskState)
+    (events : List Event) where
   -- The connections that a worker of this post served, one after the other, over links that its door gave it: of each `VisitsClients`
-  -- says what it was answered, at which states of those that its seat had seen by then, or `VisitsAgents` what it was asked. What
-  -- the seat has seen in all begins the one list of states that the service published.
+  -- says what it was answered, at which states of those that its seat had seen by then, and where it entered in what its seat then
+  -- knew of the roll's log; or `VisitsAgents` what it was asked. What the seat has seen in all begins the one list of states that the
+  -- service published, and what it knows begins the one log of the roll.
   abbrev pub WorksFor : Option SeatState → WorkerEnd → StopsTold → Option (List L) → E → Type 0
   WorksFor (Some seat) end told given door = (seat_now : SeatState)
       × GoesOn seat_now.seen published
+      × IsPrefix seat_now.events events
       × Works (VisitsClients traffic marks faults) (EndsWorking unasked told) marks faults end seat seat_now
       given (given_back door) 0 (door_faults door)
   WorksFor None end told given door =

@@ -8,6 +8,9 @@ use Rattle.link_ports.specs.LinkMarks.{LinkMarks}
 use Rattle.link_ports.specs.declared.door_kinds.DoorKind.{DoorKind}
 use Rattle.link_ports.specs.declared.door_kinds.DoorKind.TheVariants.{Admin}
 use Rattle.desk_state.specs.DeskState.{DeskState}
+use Rattle.live_roll.specs.declared.events.Event.{Event}
+use Rattle.live_roll.specs.Events.{NoneBelow}
+use Rattle.admin_door.specs.Hanging.{AreHung}
 use Rattle.server_hall.specs.StopNews.{StopsTold, unasked}
 use Rattle.desk_server.specs.Visit.{Works}
 use Rattle.desk_server.specs.Administrators.{Office, VisitsOffice, EndsOffice}
@@ -70,8 +73,10 @@ ClosesOpened {E} kind closed closed_now = (closed_now ≡ closed)
 
 -- A service served administrators, one connection after the other, each from the state that the one before it left. Beside them so
 -- many workers of clients, and nine of agents, served at doors of their own, and all have ended. What each of clients was answered
--- by is a front of `last.published`, the one list of states that administrators made. A worker that was unstarted served
--- nobody: so it is with that of administrators where not all workers had threads. It closed all its doors: first
+-- by is a front of `last.published`, the one list of states that administrators made. What happened in the roll, `events`, is one
+-- log too, in which nobody who entered behind a disconnect entered below its commit: each client entered in it, as a front of it says
+-- that its seat knew; and of each command that was answered as done a disconnect up to its commit stands in it. A worker that was
+-- unstarted served nobody: so it is with that of administrators where not all workers had threads. It closed all its doors: first
 -- that for administrators, and then those of the workers in their order. Each has its links back.
 pub record ServesAll {L E : Type 0} (traffic : L → Option Traffic) (marks : L → LinkMarks) (faults : L → ℕ)
     (given_back : E → Option (List L)) (door_faults : E → ℕ) (kind : E → Option DoorKind) (workers : ℕ)
@@ -86,7 +91,10 @@ pub record ServesAll {L E : Type 0} (traffic : L → Option Traffic) (marks : L 
   pub works : Works (VisitsOffice traffic marks faults) (EndsOffice unasked told) marks faults end (opening start disk) last
       given (given_back door) 0 (door_faults door)
   pub counted : disk_now ≡ last.faults
+  pub events : List Event
+  pub none_below : NoneBelow events
+  pub hung : AreHung events last.frames
   pub crew : List (EndedWorker E)
-  pub serves : AllZip (Serves traffic marks faults given_back door_faults kind last.published) (posts workers) crew
+  pub serves : AllZip (Serves traffic marks faults given_back door_faults kind last.published events) (posts workers) crew
   pub doors : ClosesDoors closed (door ∷ doors_of crew) closed_now
   pub ends : EndsService ending (end ∷ ends_of crew) disk disk_now net net_now
