@@ -33,6 +33,11 @@ hangs_none published hangs = record { begins = prefix_self hangs; hung = inl ref
 pub hangs_same : (published now : List DeskState) (hangs : List Event) → now ≡ published → HangsOn published now hangs hangs
 hangs_same published now hangs same = record { begins = prefix_self hangs; hung = inl same }
 
+-- seen from what was published before it was made ready
+pub hangs_from : (first then last : List DeskState) (hangs after : List Event) → then ≡ first
+    → HangsOn then last hangs after → HangsOn first last hangs after
+hangs_from first then last hangs after same on = subst (λ (list : List DeskState). HangsOn list last hangs after) same on
+
 -- a state was published, and all older connections hung up
 pub hangs_last : (published now : List DeskState) (hangs after : List Event) → IsPrefix hangs after
     → HasHung after (last_commit 0 now) → HangsOn published now hangs after

@@ -287,7 +287,7 @@ fn tell_refusal(alloc: Global, refusal: Refusal) -> Result<Vec<Message>, Ended>
 
 // Commits what was prepared, and then shows it to all. All memory but that of the publication is taken before the
 // commit.
-#[tactic(auto, using(crate::proofs::Hanging::hangs_none, crate::proofs::Hanging::hangs_same))]
+#[tactic(auto, using(crate::proofs::Hanging::hangs_none, crate::proofs::Hanging::hangs_same, crate::proofs::Hanging::hangs_from))]
 fn commit_prepared<R: Wait, D: Disk, J: Naming, A: Hall<List = J>>(
     rt: &R,
     alloc: Global,

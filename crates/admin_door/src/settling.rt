@@ -105,7 +105,7 @@ fn remount<D: Disk>(keeper: &mut Keeper<'_, D>) -> Result<(), Unsettled>
 }
 
 // Shows the state that the folder keeps to all, where it is newer than what was published.
-#[tactic(auto, using(crate::proofs::Hanging::hangs_none))]
+#[tactic(auto, using(crate::proofs::Hanging::hangs_none, crate::proofs::Hanging::hangs_same, crate::proofs::Hanging::hangs_from))]
 fn publish_kept<R: Wait, D: Disk, J: Naming, A: Hall<List = J>>(
     rt: &R,
     keeper: &Keeper<'_, D>,

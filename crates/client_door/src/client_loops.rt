@@ -14,9 +14,9 @@ use server_hall::Hall;
 use std::alloc::Global;
 use std::sync::Wait;
 
-/// Serves one connection of a client: it enters the hall in the place of the seat, which then knows what happened in the roll
-/// up to this entry, each check is answered in turn, and it leaves. The replies to checks that came together are sent together. It passes the gate once it has entered, and once for
-/// each reply that was sent. It may wait.
+/// Serves one connection of a client: it enters the hall in the place of the seat, which then knows what happened in the
+/// roll up to this entry, each check is answered in turn, and it leaves. The replies to checks that came together are
+/// sent together. It passes the gate once it has entered, and once for each reply that was sent. It may wait.
 pub fn client_loop<R: Wait, J: Naming, A: Hall<List = J>, L: Link<End = A::End>, G: Gate>(
     rt: &R,
     alloc: Global,
