@@ -16,3 +16,7 @@ enters_at note before events seat now is log knew above =
       entered = (before, same ∙ log);
       above = subst (λ (es : List Event). NoneAbove es note) (sym same) above;
     }
+
+-- a front that has become the log was a front of it before
+pub knew_log : (before now log : List Event) → IsPrefix before now → now ≡ log → IsPrefix before log
+knew_log before now log begins is = subst (λ (es : List Event). IsPrefix before es) is begins

@@ -145,6 +145,7 @@ impl<J: Naming> Seated<J> for Seat<J> {
         self.number
     }
 
+    #[tactic(auto, using(crate::proofs::Entering::knew_log))]
     fn tell(&mut self, note: u64, events: &Front<Event, Events<J>>) -> bool {
         if !self.events.catch_up(events) {
             return false;

@@ -1,5 +1,5 @@
 // How events come into the roll's log, and how a seat is told of it.
-ghost use Rattle.std.specs.Prelude.{◌≡◌, ◌++◌, ◌∷◌, []};
+ghost use Rattle.std.specs.Prelude.{◌≡◌, ◌++◌, ◌∷◌, [], IfSome};
 ghost use mathlib.Core.List.{IsPrefix};
 
 use crate::events::Event;
@@ -18,13 +18,23 @@ pub(crate) fn logged<R: Wait, J: Naming>(
 ) -> Front<Event, Events<J>>
     ensures { result ≡ log.now ++ event ∷ [] }
 {
-    let happened = Snapshot::of(&event);
     for _ in rt.forever() {
-        if let Some(longer) = book.put_behind(log, &happened) {
+        if let Some(longer) = put(book, log, event) {
             return longer;
         }
     }
     unreachable!()
+}
+
+// The same, or none.
+fn put<J: Naming>(
+    book: &Book<Event, Events<J>>,
+    log: &Front<Event, Events<J>>,
+    event: Event,
+) -> Option<Front<Event, Events<J>>>
+    ensures { IfSome result (λ longer. longer ≡ log.now ++ event ∷ []) }
+{
+    book.put_behind(log, &Snapshot::of(&event))
 }
 
 /// Tells the seat the note and the log. It does not return where the seat knows of more than stands in the log, which
