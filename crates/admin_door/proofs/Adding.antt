@@ -16,8 +16,8 @@ use Rattle.admin_door.specs.Settling.{IsFound, Settles, IsHungFor, Unsettles}
 use Rattle.admin_door.specs.Answering.{Commits, LacksMemory, Obeys, IsUnanswered, AnswersQuestion, AnswersBy, RefusesBy}
 use Rattle.admin_door.specs.Adding.{Adds, AddsAtMost, AddsSome, IsAcknowledged}
 use Rattle.admin_door.specs.Serving.{AdminTalk, Exchange, AreAnswered, EndsAnswering, Serves}
-use Rattle.admin_door.specs.declared.settling.Unsettled.{Unsettled}
-use Rattle.admin_door.specs.declared.settling.Unsettled.TheVariants as why
+use Rattle.desk_keeper.specs.declared.refusals.KeeperRefusal.{KeeperRefusal}
+use Rattle.desk_keeper.specs.declared.refusals.KeeperRefusal.TheVariants as why
 use Rattle.admin_door.proofs.Showing.{last-behind}
 
 -- ---- one step
@@ -123,12 +123,12 @@ fails-none old now is =
     subst (λ (side : AdminSide). AddsAtMost 0 old side) (sym is)
     (none old (with_fault old) (changes old old.desk false (with_fault old).faults old.tally.stop_calls))
 
-unsettles-none : (told : Option DiskState) (old now : AdminSide) (reason : Unsettled) → Unsettles told old now reason
+unsettles-none : (told : Option DiskState) (old now : AdminSide) (reason : KeeperRefusal) → Unsettles told old now reason
     → AddsAtMost 0 old now
 unsettles-none told old now why.StoreFault (undecided, is) = fails-none old now is
-unsettles-none told old now (why.StoreDamaged file line) (undecided, is, damaged) = still old now is
-unsettles-none told old now why.Memory (inl is) = still old now is
-unsettles-none told old now why.Memory (inr found) = found-none told old now found
+unsettles-none told old now (why.Damaged file line) (undecided, is, damaged) = still old now is
+unsettles-none told old now (why.Memory error) (inl is) = still old now is
+unsettles-none told old now (why.Memory error) (inr found) = found-none told old now found
 
 -- ---- a command
 
@@ -218,9 +218,9 @@ obeys-acknowledged told command old now replies commit erased (inl (between, set
     let same = sym failed.answered ∙ is in cc
 obeys-acknowledged told command old now replies commit erased (inr (why.StoreFault, unsettles, answers)) is =
     let same = sym answers ∙ is in cc
-obeys-acknowledged told command old now replies commit erased (inr (why.StoreDamaged file line, unsettles, answers)) is =
+obeys-acknowledged told command old now replies commit erased (inr (why.Damaged file line, unsettles, answers)) is =
     let same = sym answers ∙ is in cc
-obeys-acknowledged told command old now replies commit erased (inr (why.Memory, unsettles, answers)) is = absurd answers
+obeys-acknowledged told command old now replies commit erased (inr (why.Memory error, unsettles, answers)) is = absurd answers
 
 pub answers-acknowledged : (told : Option DiskState) (found : Option Command) (message : Message) (old now : AdminSide)
     (replies : List Message) (command : Command) (commit erased : ℕ) → AnswersBy told found message old now replies

@@ -29,9 +29,9 @@ ghost use Rattle.admin_door.specs.parts.Showing.{Shows, IsUnshown};
 use crate::publishing::show;
 use crate::questions::{check_replies, list_replies, one};
 use crate::services::service_replies;
-use crate::settling::{Unsettled, settle};
+use crate::settling::settle;
 use crate::states::state_replies;
-use desk_keeper::{Keeper, PreparedCommit};
+use desk_keeper::{Keeper, KeeperRefusal, PreparedCommit};
 use desk_ports::Disk;
 use desk_state::{Command, Refusal};
 use door_frames::Ended;
@@ -223,13 +223,13 @@ fn obey<R: Wait, D: Disk, J: Naming, A: Hall<List = J>>(
 }
 
 // What a command is answered that could not be settled.
-fn tell_unsettled(alloc: Global, reason: Unsettled) -> Result<Vec<Message>, Ended>
+fn tell_unsettled(alloc: Global, reason: KeeperRefusal) -> Result<Vec<Message>, Ended>
     ensures { MatchResult result (λ replies. AnswersUnsettled reason replies.items) (λ ended. ended ≡ Memory) }
 {
     match reason {
-        Unsettled::StoreFault => one(alloc, Message::StoreFault),
-        Unsettled::StoreDamaged { file, line } => one(alloc, Message::StoreDamaged { file, line }),
-        Unsettled::Memory => Err(Ended::Memory),
+        KeeperRefusal::StoreFault => one(alloc, Message::StoreFault),
+        KeeperRefusal::Damaged { file, line } => one(alloc, Message::StoreDamaged { file, line }),
+        KeeperRefusal::Memory(_) => Err(Ended::Memory),
     }
 }
 
