@@ -12,6 +12,7 @@ mod seats;
 mod starting;
 mod verdicts;
 
+pub use copies::DeskCopy;
 pub use live_roll::{Left, MOST_SEATS, Roll, Seated, Stopped};
 pub use publishers::{Publisher, Ready};
 pub use seats::Seat;
