@@ -20,7 +20,7 @@ use Rattle.admin_door.specs.Adding.{AddsSome, IsAcknowledged}
 use Rattle.admin_door.specs.Answering.{Obeys, AnswersBy}
 use Rattle.admin_door.specs.Serving.{AdminTalk, Exchange, IsAnswered, AreAnswered, EndsAnswering, Serves}
 use Rattle.admin_door.specs.Hanging.{HangsOn, HasHungTo, IsHung, AreHung}
-use Rattle.admin_door.specs.declared.settling.Unsettled.TheVariants as why
+use Rattle.desk_keeper.specs.declared.refusals.KeeperRefusal.TheVariants as why
 use Rattle.admin_door.proofs.Showing.{last-behind}
 use Rattle.admin_door.proofs.Adding.{settles-one, some-of, some-then, answered-some, ending-some, still, answers-acknowledged}
 
