@@ -99,9 +99,9 @@ done-longer told command old now replies commit erased (inl (between, settles, i
     let same = sym failed.answered ∙ is in cc
 done-longer told command old now replies commit erased (inr (why.StoreFault, unsettles, answers)) is =
     let same = sym answers ∙ is in cc
-done-longer told command old now replies commit erased (inr (why.StoreDamaged file line, unsettles, answers)) is =
+done-longer told command old now replies commit erased (inr (why.Damaged file line, unsettles, answers)) is =
     let same = sym answers ∙ is in cc
-done-longer told command old now replies commit erased (inr (why.Memory, unsettles, answers)) is = absurd answers
+done-longer told command old now replies commit erased (inr (why.Memory error, unsettles, answers)) is = absurd answers
 
 answers-longer : (told : Option DiskState) (found : Option Command) (message : Message) (old now : AdminSide)
     (replies : List Message) (command : Command) (commit erased : ℕ) → AnswersBy told found message old now replies

@@ -5,7 +5,7 @@ ghost use mathlib.Core.List.{IsPrefix};
 ghost use Rattle.std.specs.List.{AllByRecursion, list_any};
 ghost use Rattle.std.specs.Option.{option_to_list};
 ghost use Rattle.serve_runs.specs.Crew.{kind_for};
-ghost use Rattle.serve_runs.specs.parts.Crews.{duty_at, duty_of, post_at, stations_with, lacked, worker_lacked};
+ghost use Rattle.serve_runs.specs.parts.Crews.{duty_at, duty_of, seat_at, stations_with, lacked, worker_lacked};
 ghost use Rattle.serve_runs.specs.parts.Crews.{WorksAt, HasWorked, HasSeenOf, SawOnly};
 ghost use Rattle.serve_runs.specs.declared.crews.Station.TheVariants.{Agents};
 
@@ -60,7 +60,8 @@ impl<J: Naming, X: ClientDuty> Station<J, X> {
         gate: &G,
         news: &mut StopNews,
     ) -> WorkerEnd
-        ensures works { WorksAt D.Link.traffic D.Link.marks D.Link.faults D.given_back D.faults X.goes
+        ensures works { WorksAt X.state (X.visits D.Link.traffic D.Link.marks D.Link.faults)
+            D.Link.traffic D.Link.marks D.Link.faults D.given_back D.faults
             result self.old self.new door.old door.new news.old news.new }
         ensures kind { D.kind door.new ≡ D.kind door.old }
     {
@@ -81,7 +82,8 @@ impl<J: Naming, X: ClientDuty> Station<J, X> {
         gate: &G,
         news: &mut StopNews,
     ) -> WorkerEnd
-        ensures works { WorksAt D.Link.traffic D.Link.marks D.Link.faults D.given_back D.faults X.goes
+        ensures works { WorksAt X.state (X.visits D.Link.traffic D.Link.marks D.Link.faults)
+            D.Link.traffic D.Link.marks D.Link.faults D.given_back D.faults
             result self.old self.new door.old door.new news.old news.new }
         ensures kind { D.kind door.new ≡ D.kind door.old }
     {
@@ -95,7 +97,7 @@ impl<J: Naming, X: ClientDuty> Station<J, X> {
 
     /// The kind of its door.
     pub fn kind(&self) -> DoorKind
-        ensures { result ≡ kind_for (post_at self.now) }
+        ensures { result ≡ kind_for (seat_at self.now) }
     {
         match self {
             Station::Clients(_, _) => DoorKind::Client,
@@ -106,7 +108,7 @@ impl<J: Naming, X: ClientDuty> Station<J, X> {
     // Whether as many states were published as its seat has seen, and as many events of the roll are known as it knows,
     // where it serves clients.
     fn is_covered(&self, publisher: &Publisher<J>, events: &Front<Event, Events<J>>) -> bool
-        ensures { OnTrue result (HasSeenOf publisher.now events.now (post_at self.now)) }
+        ensures { OnTrue result (HasSeenOf publisher.now events.now (seat_at self.now)) }
     {
         match self {
             Station::Clients(seat, _) => {
@@ -159,8 +161,8 @@ impl<J: Naming, D: Door, X: ClientDuty> Worker<J, D, X> {
         gate: &G,
         notes: &T,
     )
-        ensures { HasWorked D.Link.traffic D.Link.marks D.Link.faults D.given_back D.faults X.goes D.kind
-            self.old self.new }
+        ensures { HasWorked X.state (X.visits D.Link.traffic D.Link.marks D.Link.faults)
+            D.Link.traffic D.Link.marks D.Link.faults D.given_back D.faults D.kind self.old self.new }
     {
         let mut news = StopNews::new();
         let end = self.station.work(

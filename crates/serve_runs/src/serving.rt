@@ -1,13 +1,15 @@
 // The service, once the folder is mounted.
-ghost use Rattle.std.specs.Prelude.{◌≡◌, ◌+◌, ◌<◌, ◌≤◌, ◌∷◌, [], ℕ, length, map, vec_len, vec_capacity, MatchResult, OnErr, OnOk, IfOk};
+ghost use Rattle.std.specs.Prelude.{◌≡◌, ◌+◌, ◌<◌, ◌≤◌, ◌∷◌, [], ℕ, length, map, vec_len, vec_capacity, MatchResult, OnErr, OnOk};
 ghost use Rattle.std.specs.List.{AllZip};
 ghost use Rattle.desk_keeper.specs.Keeper.{IsSameDisk};
 ghost use Rattle.state_list.specs.Opening.{book_of};
 ghost use Rattle.live_roll.specs.Events.{NoneBelow};
 ghost use Rattle.live_desk.specs.History.{last_commit};
-ghost use Rattle.serve_runs.specs.Crew.{posts, posts_with};
+ghost use Rattle.live_desk.specs.Seat.{new_seats};
+ghost use Rattle.serve_runs.specs.Crew.{posts_with};
+ghost use Rattle.serve_runs.specs.Duties.{states_of};
 ghost use Rattle.serve_runs.specs.Serving.{EndsUnopened, ClosesOpened};
-ghost use Rattle.serve_runs.specs.parts.Crews.{duty_at, duties_in, post_at, HasWorked};
+ghost use Rattle.serve_runs.specs.parts.Crews.{post_at, HasWorked};
 ghost use Rattle.serve_runs.specs.parts.Officiating.{Knocks, Officiates, Staffs};
 
 use crate::beside::beside;
@@ -74,14 +76,15 @@ where
     requires most { workers ≤ 64 }
     requires duties { length duties.items ≡ workers }
     ensures served { MatchResult result
-        (λ met. Staffs D.faults D.state D.moment D.left_since N.Door.Link.traffic N.Door.Link.marks N.Door.Link.faults
-        N.Door.given_back N.Door.faults N.Door.kind (posts workers) met.lacked_memory met.alone
+        (λ met. Staffs X.state X.seat_of (X.visits N.Door.Link.traffic N.Door.Link.marks N.Door.Link.faults)
+        D.faults D.state D.moment D.left_since N.Door.Link.traffic N.Door.Link.marks N.Door.Link.faults
+        N.Door.given_back N.Door.faults N.Door.kind
+        (posts_with (states_of X.state (new_seats workers) duties.items)) met.duties.items met.lacked_memory met.alone
         keeper.old keeper.new (N.faults net.old) (N.faults net.new) (N.closed net.old) (N.closed net.new))
         (λ ending. EndsUnopened ending (N.faults net.old) (N.faults net.new)) }
     ensures closed { OnErr result (ClosesOpened N.Door.kind (N.closed net.old) (N.closed net.new)) }
     ensures kept { OnErr result (keeper.new ≡ keeper.old) }
     ensures same_disk { IsSameDisk keeper.old keeper.new }
-    ensures duties { IfOk result (λ met. AllZip X.goes duties.items met.duties.items) }
     ensures chore { OnOk result ((turns : ℕ) × C.goes chore.old turns chore.new) }
     ensures untouched { OnErr result (chore.new ≡ chore.old) }
 {
@@ -137,14 +140,15 @@ where
     requires most { workers ≤ 64 }
     requires duties { length duties.items ≡ workers }
     ensures served { MatchResult result
-        (λ met. Staffs D.faults D.state D.moment D.left_since N.Door.Link.traffic N.Door.Link.marks N.Door.Link.faults
-        N.Door.given_back N.Door.faults N.Door.kind (posts workers) met.lacked_memory met.alone
+        (λ met. Staffs X.state X.seat_of (X.visits N.Door.Link.traffic N.Door.Link.marks N.Door.Link.faults)
+        D.faults D.state D.moment D.left_since N.Door.Link.traffic N.Door.Link.marks N.Door.Link.faults
+        N.Door.given_back N.Door.faults N.Door.kind
+        (posts_with (states_of X.state (new_seats workers) duties.items)) met.duties.items met.lacked_memory met.alone
         keeper.old keeper.new (N.faults net.old) (N.faults net.new) (N.closed net.old) (N.closed net.new))
         (λ ending. EndsUnopened ending (N.faults net.old) (N.faults net.new)) }
     ensures closed { OnErr result (ClosesOpened N.Door.kind (N.closed net.old) (N.closed net.new)) }
     ensures kept { OnErr result (keeper.new ≡ keeper.old) }
     ensures same_disk { IsSameDisk keeper.old keeper.new }
-    ensures duties { IfOk result (λ met. AllZip X.goes duties.items met.duties.items) }
     ensures chore { OnOk result ((turns : ℕ) × C.goes chore.old turns chore.new) }
     ensures untouched { OnErr result (chore.new ≡ chore.old) }
 {
@@ -212,14 +216,15 @@ where
     requires published { publisher.old ≡ keeper.old.desk ∷ [] }
     requires seats { length duties.items ≡ length seats.items }
     ensures served { MatchResult result
-        (λ met. Staffs D.faults D.state D.moment D.left_since N.Door.Link.traffic N.Door.Link.marks N.Door.Link.faults
-        N.Door.given_back N.Door.faults N.Door.kind (posts_with seats.items) met.lacked_memory met.alone
+        (λ met. Staffs X.state X.seat_of (X.visits N.Door.Link.traffic N.Door.Link.marks N.Door.Link.faults)
+        D.faults D.state D.moment D.left_since N.Door.Link.traffic N.Door.Link.marks N.Door.Link.faults
+        N.Door.given_back N.Door.faults N.Door.kind
+        (posts_with (states_of X.state seats.items duties.items)) met.duties.items met.lacked_memory met.alone
         keeper.old keeper.new (N.faults net.old) (N.faults net.new) (N.closed net.old) (N.closed net.new))
         (λ ending. EndsUnopened ending (N.faults net.old) (N.faults net.new)) }
     ensures closed { OnErr result (ClosesOpened N.Door.kind (N.closed net.old) (N.closed net.new)) }
     ensures kept { OnErr result (keeper.new ≡ keeper.old) }
     ensures same_disk { IsSameDisk keeper.old keeper.new }
-    ensures duties { IfOk result (λ met. AllZip X.goes duties.items met.duties.items) }
     ensures chore { OnOk result ((turns : ℕ) × C.goes chore.old turns chore.new) }
     ensures untouched { OnErr result (chore.new ≡ chore.old) }
 {
@@ -276,14 +281,15 @@ where
     requires empty { room.items ≡ [] }
     requires room { vec_len room + length stations.items ≤ vec_capacity room }
     ensures served { MatchResult result
-        (λ met. Staffs D.faults D.state D.moment D.left_since N.Door.Link.traffic N.Door.Link.marks N.Door.Link.faults
-        N.Door.given_back N.Door.faults N.Door.kind (map post_at stations.items) met.lacked_memory met.alone
+        (λ met. Staffs X.state X.seat_of (X.visits N.Door.Link.traffic N.Door.Link.marks N.Door.Link.faults)
+        D.faults D.state D.moment D.left_since N.Door.Link.traffic N.Door.Link.marks N.Door.Link.faults
+        N.Door.given_back N.Door.faults N.Door.kind
+        (map (post_at X.state) stations.items) met.duties.items met.lacked_memory met.alone
         keeper.old keeper.new (N.faults net.old) (N.faults net.new) (N.closed net.old) (N.closed net.new))
         (λ ending. EndsUnopened ending (N.faults net.old) (N.faults net.new)) }
     ensures closed { OnErr result (ClosesOpened N.Door.kind (N.closed net.old) (N.closed net.new)) }
     ensures kept { OnErr result (keeper.new ≡ keeper.old) }
     ensures same_disk { IsSameDisk keeper.old keeper.new }
-    ensures duties { IfOk result (λ met. AllZip X.goes (duties_in (map duty_at stations.items)) met.duties.items) }
     ensures chore { OnOk result ((turns : ℕ) × C.goes chore.old turns chore.new) }
     ensures untouched { OnErr result (chore.new ≡ chore.old) }
 {
@@ -355,14 +361,15 @@ where
     ensures none_below { NoneBelow result.1 }
     ensures knocks { Knocks N.faults N.closed net.old net.new }
     ensures chore { (turns : ℕ) × C.goes chore.old turns chore.new }
-    ensures workers { AllZip (HasWorked E.Link.traffic E.Link.marks E.Link.faults E.given_back E.faults X.goes E.kind) crew.old crew.new }
+    ensures workers { AllZip (HasWorked X.state (X.visits E.Link.traffic E.Link.marks E.Link.faults)
+        E.Link.traffic E.Link.marks E.Link.faults E.given_back E.faults E.kind) crew.old crew.new }
 {
     let roll = Mutex::new(roll);
     let questions = QuestionDesk::new(alloc);
     let muster = Muster::new(clients);
     let each = |_: usize, worker: &mut Worker<J, E, X>|
-        ensures { HasWorked E.Link.traffic E.Link.marks E.Link.faults E.given_back E.faults X.goes E.kind
-            worker.entry.now worker.exit.now }
+        ensures { HasWorked X.state (X.visits E.Link.traffic E.Link.marks E.Link.faults)
+            E.Link.traffic E.Link.marks E.Link.faults E.given_back E.faults E.kind worker.entry.now worker.exit.now }
     { worker.work(rt, alloc, &roll, &questions, &muster, alarm, gate, notes) };
     let end = beside(
         rt, alloc, clients, crew, &each, keeper, publisher, &roll, &questions, hangs, &muster,

@@ -17,15 +17,16 @@ use Rattle.desk_keeper.specs.declared.keeper.Keeper.{Keeper}
 use Rattle.server_hall.specs.StopNews.{StopsTold, unasked}
 use Rattle.admin_door.specs.Serving.{Exchange}
 use Rattle.admin_door.specs.Running.{RunsOver}
-use Rattle.desk_server.specs.Visit.{Works}
+use Rattle.desk_server.specs.Visit.{Visit, Works}
 use Rattle.desk_server.specs.Administrators.{office_of, VisitsOffice, EndsOffice}
 use Rattle.desk_server.specs.declared.workers.WorkerEnd.{WorkerEnd}
 use Rattle.desk_server.specs.declared.workers.WorkerEnd.TheVariants.{DoorFailed}
 use Rattle.run_endings.specs.declared.endings.Ending.{Ending}
 use Rattle.run_endings.specs.declared.endings.Ending.TheVariants.{Done, Memory, Disk, Net}
 use Rattle.live_desk.specs.Seat.{SeatState}
-use Rattle.serve_runs.specs.Crew.{EndedWorker, ends_of, doors_of, lacks_memory, is_deserted, Serves}
+use Rattle.serve_runs.specs.Crew.{EndedWorker, ends_of, doors_of, left_by, lacks_memory, is_deserted, Serves}
 use Rattle.serve_runs.specs.Serving.{HasRisen, HasNotRisen, ClosesDoors}
+use Rattle.serve_runs.specs.Duties.{AreStatesOf}
 
 -- a net before and after a row of knocks: its count did not fall, and it tells the same doors closed
 pub record Knocks {N C : Type 0} (net_faults : N → ℕ) (net_closed : N → Option (List C)) (old new : N) : Type 0 where
@@ -48,12 +49,13 @@ pub record Officiates {D L E : Type 0} (disk_faults : D → ℕ) (state : D → 
   pub same_disk : IsSameDisk keeper keeper_now
   pub same_kind : kind door_now ≡ kind door
 
--- What a service did between its opening and its end: whether memory or a thread was wanting, whether it was stopped by no
--- administrator, and the rest as of `ServesAll`.
-pub record Staffs {D L E : Type 0} (disk_faults : D → ℕ) (state : D → Option DiskState) (moment : D → ℕ)
+-- What a service did between its opening and its end, by workers of these posts, whose duties have become these: whether memory or a
+-- thread was wanting, whether it was stopped by no administrator, and the rest as of `ServesAll`.
+pub record Staffs {S D L E X : Type 0} (state_of : SeatState → X → S) (seat_of : S → SeatState) (visits : S → Visit L → S → Type 0)
+    (disk_faults : D → ℕ) (state : D → Option DiskState) (moment : D → ℕ)
     (left_since : D → ℕ → FileMap → Type 0) (traffic : L → Option Traffic) (marks : L → LinkMarks)
     (faults : L → ℕ) (given_back : E → Option (List L)) (door_faults : E → ℕ) (kind : E → Option DoorKind)
-    (posts : List (Option SeatState)) (lacked alone : Bool) (keeper keeper_now : Keeper D) (net net_now : ℕ) (closed closed_now : Option (List E)) : Type 0 where
+    (posts : List (Option S)) (duties : List X) (lacked alone : Bool) (keeper keeper_now : Keeper D) (net net_now : ℕ) (closed closed_now : Option (List E)) : Type 0 where
   pub end : WorkerEnd
   pub published : List DeskState
   pub given : Option (List L)
@@ -69,8 +71,9 @@ pub record Staffs {D L E : Type 0} (disk_faults : D → ℕ) (state : D → Opti
   pub events : List Event
   pub none_below : NoneBelow events
   pub hung : AreHung events frames
-  pub crew : List (EndedWorker E)
-  pub serves : AllZip (Serves traffic marks faults given_back door_faults kind published events) posts crew
+  pub crew : List (EndedWorker S E)
+  pub serves : AllZip (Serves seat_of visits traffic marks faults given_back door_faults kind published events) posts crew
+  pub left : AreStatesOf state_of duties (left_by crew)
   pub doors : ClosesDoors closed (door ∷ doors_of crew) closed_now
   pub memory : lacked ≡ lacks_memory (end ∷ ends_of crew)
   pub deserted : alone ≡ is_deserted (end ∷ ends_of crew)

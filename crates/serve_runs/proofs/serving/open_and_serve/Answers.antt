@@ -6,9 +6,10 @@ use Rattle.desk_state.specs.DeskState.{DeskState}
 use Rattle.server_hall.specs.StopNews.{unasked}
 use Rattle.desk_server.specs.Visit.{Works}
 use Rattle.desk_server.specs.Administrators.{VisitsOffice, EndsOffice, office_of}
-use Rattle.serve_runs.specs.Crew.{doors_of, ends_of, is_lacking, is_alone, is_deserted}
+use Rattle.serve_runs.specs.Crew.{doors_of, ends_of, left_by, is_lacking, is_alone, is_deserted}
+use Rattle.serve_runs.specs.Duties.{AreStatesOf}
 use Rattle.serve_runs.specs.Serving.{ClosesDoors}
-use Rattle.serve_runs.specs.parts.Crews.{duty_at, post_at, duties_in, duties_of, door_of, worker_lacked, CountsDoor, SawOnly}
+use Rattle.serve_runs.specs.parts.Crews.{post_at, duties_of, door_of, worker_lacked, CountsDoor, SawOnly}
 use Rattle.admin_door.proofs.Hanging.{hung-on}
 use Rattle.serve_runs.proofs.Closing.{closes_then, closes_again, door_failed, counts_within}
 use Rattle.serve_runs.proofs.Crewing.{all_ended, failed_all, none_alone, alone_first}
@@ -46,8 +47,11 @@ returns-clause-served g c =
     let written = with_items_is c.open_doors.new.crew now (search (rules, places)) in
     let saw : AllByRecursion (SawOnly c.serve-end.new.publisher c.serve-end.result.1) now =
     subst (λ list. AllByRecursion (SawOnly c.serve-end.new.publisher c.serve-end.result.1) list) (c.deref.ensures.value ∙ written) c.compare.ensures.crew in
-    let ended = all_ended g.N.Door.Link.Link.traffic g.N.Door.Link.Link.marks g.N.Door.Link.Link.faults g.N.Door.Door.given_back
-    g.N.Door.Door.faults g.N.Door.Door.kind g.X.ClientDuty.goes c.serve-end.new.publisher c.serve-end.result.1 c.args.stations.items c.deref_mut.result.now now
+    let state = g.X.ClientDuty.state in
+    let visits = g.X.ClientDuty.visits g.N.Door.Link.Link.traffic g.N.Door.Link.Link.marks g.N.Door.Link.Link.faults in
+    let ended = all_ended state g.X.ClientDuty.seat_of g.met.X.ClientDuty.seat_is visits
+    g.N.Door.Link.Link.traffic g.N.Door.Link.Link.marks g.N.Door.Link.Link.faults g.N.Door.Door.given_back
+    g.N.Door.Door.faults g.N.Door.Door.kind c.serve-end.new.publisher c.serve-end.result.1 c.args.stations.items c.deref_mut.result.now now
     (rw c.deref_mut.ensures.value c.in_default.ensures.opened) c.serve-end.ensures.workers saw in
     let doors = ap (λ list. map door_of list) written ∙ sym ended.doors in
     record {
@@ -67,6 +71,8 @@ returns-clause-served g c =
           c.serve-end.ensures.officiates.hung;
       crew = ended.crew;
       serves = ended.serves;
+      left = subst (λ (list : List g.row.X.Denot). AreStatesOf state list (left_by ended.crew))
+          (sym (c.close_doors-2.ensures.duties ∙ ap (λ list. duties_of list) written)) ended.left;
       doors = closes_then (g.N.Net.closed c.args.net.now) (g.N.Net.closed c.close-2.new.self) (g.N.Net.closed c.close_doors-2.new.net)
           (c.serve-end.new.door ∷ []) (doors_of ended.crew)
           (subst (λ (told : Option (List g.row.N-Door.Denot)). AppendsTold told c.serve-end.new.door (g.N.Net.closed c.close-2.new.self))
@@ -79,16 +85,16 @@ returns-clause-served g c =
           (c.lacked_memory-lacked.ensures
           ∙ (ap (λ list. list_any worker_lacked list) (c.deref-2.ensures.value ∙ written) ∙ sym ended.lacks));
       deserted = alone_first _ (is_alone c.serve-end.result.0) (is_deserted (ends_of ended.crew)) c.is_alone.ensures
-          (none_alone g.N.Door.Link.Link.traffic g.N.Door.Link.Link.marks g.N.Door.Link.Link.faults g.N.Door.Door.given_back
+          (none_alone g.X.ClientDuty.seat_of visits g.N.Door.Link.Link.traffic g.N.Door.Link.Link.marks g.N.Door.Link.Link.faults g.N.Door.Door.given_back
           g.N.Door.Door.faults g.N.Door.Door.kind c.serve-end.new.publisher c.serve-end.result.1 (g.N.Dial.faults c.args.net.now) (g.N.Dial.faults c.close_doors-2.new.net)
-          (map post_at c.args.stations.items) ended.crew ended.serves);
+          (map (post_at state) c.args.stations.items) ended.crew ended.serves);
       failed = (
         door_failed c.serve-end.result.0 (g.N.Door.Door.faults c.serve-end.new.door) (g.N.Dial.faults c.args.net.now)
             (g.N.Dial.faults c.serve-end.new.net) (g.N.Dial.faults c.close-2.new.self) (g.N.Dial.faults c.close_doors-2.new.net)
             no_less works.counted c.close-2.ensures.count c.close_doors-2.ensures.no_less,
-        failed_all g.N.Door.Link.Link.traffic g.N.Door.Link.Link.marks g.N.Door.Link.Link.faults g.N.Door.Door.given_back
+        failed_all g.X.ClientDuty.seat_of visits g.N.Door.Link.Link.traffic g.N.Door.Link.Link.marks g.N.Door.Link.Link.faults g.N.Door.Door.given_back
             g.N.Door.Door.faults g.N.Door.Door.kind c.serve-end.new.publisher c.serve-end.result.1 (g.N.Dial.faults c.args.net.now) (g.N.Dial.faults c.close_doors-2.new.net)
-            (map post_at c.args.stations.items) ended.crew ended.serves
+            (map (post_at state) c.args.stations.items) ended.crew ended.serves
             (counts_within g.N.Door.Door.faults (doors_of ended.crew) (g.N.Dial.faults c.args.net.now) (g.N.Dial.faults c.close-2.new.self)
             (g.N.Dial.faults c.close_doors-2.new.net) (g.N.Dial.faults c.close_doors-2.new.net)
             (omega (arith, no_less, c.close-2.ensures.bound.0)) (omega arith)
@@ -96,15 +102,3 @@ returns-clause-served g c =
             (g.N.Dial.faults c.close-2.new.self) (g.N.Dial.faults c.close_doors-2.new.net)) list) doors c.close_doors-2.ensures.counted)),
       );
     }
-
-pub returns-clause-duties : goal.returns-clause-duties
-returns-clause-duties g c =
-    let now = c.serve-end.new.crew in
-    let written = with_items_is c.open_doors.new.crew now (search (rules, places)) in
-    let saw : AllByRecursion (SawOnly c.serve-end.new.publisher c.serve-end.result.1) now =
-    subst (λ list. AllByRecursion (SawOnly c.serve-end.new.publisher c.serve-end.result.1) list) (c.deref.ensures.value ∙ written) c.compare.ensures.crew in
-    let ended = all_ended g.N.Door.Link.Link.traffic g.N.Door.Link.Link.marks g.N.Door.Link.Link.faults g.N.Door.Door.given_back
-    g.N.Door.Door.faults g.N.Door.Door.kind g.X.ClientDuty.goes c.serve-end.new.publisher c.serve-end.result.1 c.args.stations.items c.deref_mut.result.now now
-    (rw c.deref_mut.ensures.value c.in_default.ensures.opened) c.serve-end.ensures.workers saw in
-    subst (λ list. AllZip g.X.ClientDuty.goes (duties_in (map duty_at c.args.stations.items)) list)
-    (sym (c.close_doors-2.ensures.duties ∙ ap (λ list. duties_of list) written)) ended.duties

@@ -10,8 +10,8 @@ beside-requires-send-K g c κs within = search (sendable, worker_row_send) depth
 
 pub returns-clause-workers : goal.returns-clause-workers
 returns-clause-workers g c =
-    zip_each (HasWorked g.E.Link.Link.traffic g.E.Link.Link.marks g.E.Link.Link.faults g.E.Door.given_back g.E.Door.faults
-    g.X.ClientDuty.goes g.E.Door.kind) c.args.crew.now c.beside.new.workers (search rules)
+    zip_each (HasWorked g.X.ClientDuty.state (g.X.ClientDuty.visits g.E.Link.Link.traffic g.E.Link.Link.marks g.E.Link.Link.faults)
+    g.E.Link.Link.traffic g.E.Link.Link.marks g.E.Link.Link.faults g.E.Door.given_back g.E.Door.faults g.E.Door.kind) c.args.crew.now c.beside.new.workers (search rules)
     (λ i d low. let at = (c.beside.ensures.workers.changes i d low).1 in
-    went (HasWorked g.E.Link.Link.traffic g.E.Link.Link.marks g.E.Link.Link.faults g.E.Door.given_back g.E.Door.faults
-    g.X.ClientDuty.goes g.E.Door.kind) _ _ at.argument.now at.after_call.now at.argument_is at.left at.call)
+    went (HasWorked g.X.ClientDuty.state (g.X.ClientDuty.visits g.E.Link.Link.traffic g.E.Link.Link.marks g.E.Link.Link.faults)
+    g.E.Link.Link.traffic g.E.Link.Link.marks g.E.Link.Link.faults g.E.Door.given_back g.E.Door.faults g.E.Door.kind) _ _ at.argument.now at.after_call.now at.argument_is at.left at.call)
