@@ -175,7 +175,6 @@ impl<H: HangEnd, J: Naming> Roll<H, J> {
 
     /// The log: what has happened since the roll was opened. Who entered behind a hang-up entered at its commit or
     /// above.
-    #[tactic(auto, using(crate::proofs::Following::none_below))]
     pub fn known(&self) -> &Front<Event, Events<J>>
         ensures events { result.now ≡ self.now.events }
         ensures none_below { NoneBelow self.now.events }
