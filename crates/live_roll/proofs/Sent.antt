@@ -9,7 +9,6 @@ use Rattle.state_list.specs.contracts.rules.Events as Events
 use Rattle.state_list.specs.contracts.fronts.Front as Front
 use Rattle.state_list.specs.contracts.words.Book as Book
 use Rattle.state_list.proofs.Sent.{front_send, front_sync, book_send, events_send, events_sync}
-use Rattle.live_roll.specs.contracts.entries.Entry as Entry
 use Rattle.live_roll.specs.contracts.events.Event as Event
 use Rattle.live_roll.specs.contracts.rolls.Roll as Roll
 
@@ -25,8 +24,8 @@ module _ (J : RattleType) (events : Ghosts (Events.the_row J).Denot) where
   log_book_send send = book_send Event.the_row (Events.the_row J) events (events_send J send)
 
 module _ (H J : RattleType) (end : Ends H.Denot) (naming : Ghosts J.Denot) (events : Ghosts (Events.the_row J).Denot) where
-  pub roll_send : IsSend H → IsSend J → IsSend (Roll.the_field H J end naming events).row
+  pub roll_send : IsSend H → IsSend J → IsSend (Roll.the_field H J events end naming).row
   roll_send held send = search (sendable, crosses, log_send, log_book_send) depth 40
 
-  pub roll_row_send : IsSend H → IsSend J → IsSend (Roll.the_row H J end naming events)
-  roll_row_send held send = as_row_send (Roll.the_field H J end naming events) (roll_send held send)
+  pub roll_row_send : IsSend H → IsSend J → IsSend (Roll.the_row H J events end naming)
+  roll_row_send held send = as_row_send (Roll.the_field H J events end naming) (roll_send held send)

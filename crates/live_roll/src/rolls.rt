@@ -98,7 +98,7 @@ impl<H: HangEnd, J: Naming> Roll<H, J> {
     /// place; one that stood there is hung up first, and dropped. The log says that it entered, and the seat is told the
     /// log up to that, in which no connections were hung up for a later commit. Refuses exactly where the roll is
     /// stopped; the end then comes back.
-    #[tactic(auto, using(crate::proofs::Keeping::entered_roll, crate::proofs::Following::none_above_note))]
+    #[tactic(auto, using(crate::proofs::Following::none_above_note))]
     pub fn enter<R: Wait, S: Seated<J>>(
         &mut self,
         rt: &R,
