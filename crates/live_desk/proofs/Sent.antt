@@ -25,11 +25,8 @@ use Rattle.bucket_eval.specs.contracts.sheets.Sheet as Sheet
 use Rattle.atomic_table.proofs.shared.Seat.TheSendSync as place
 use Rattle.atomic_table.proofs.shared.Shared.TheSendSync as board
 use Rattle.atomic_table.proofs.send_lease.SendLease.TheSendSync as lease
-use Rattle.desk_state.specs.contracts.desks.Desk as Desk
 use Rattle.state_list.specs.declared.rules.Naming.{Ghosts}
 use Rattle.state_list.specs.contracts.rules.Events as Events
-use Rattle.state_list.specs.contracts.fronts.Front as Front
-use Rattle.state_list.specs.contracts.words.Book as Book
 use Rattle.state_list.proofs.Sent.{front_send, front_sync, book_send}
 use Rattle.live_roll.proofs.Sent.{log_send}
 use Rattle.left_right.specs.contracts.part.Part as Part
