@@ -26,6 +26,8 @@ pub struct Stay<R: HostNet + AllocGlobal + Clock + Copy + Drop> {
     stood_in_line: bool,
     // When the peer was accepted, or when it was last looked whether another waits.
     served_since: Instant,
+    // When it is looked for that again, if ever.
+    look_at: Option<Instant>,
     // Whether a piece was sent to the peer.
     is_answered: bool,
     // Whether bytes came since a piece was last sent: the peer is within a frame, if nothing is sent for them.
@@ -52,16 +54,19 @@ impl<R: HostNet + AllocGlobal + Clock + Copy + Drop> Stay<R> {
         };
         stream.set_read_timeout(Some(Duration::from_millis(tick)))?;
         stream.set_write_timeout(Some(Duration::from_millis(limits::SENDING_TICK)))?;
-        Ok(Stay {
+        let mut stay = Stay {
             rt,
             commons,
             stood_in_line,
             served_since: Instant::now(&rt)?,
+            look_at: None,
             is_answered: false,
             is_heard: false,
             frame_began: None,
             tick,
-        })
+        };
+        stay.set_look();
+        Ok(stay)
     }
 
     /// The next bytes, at the front of the slice. None where the connection was closed, and where it may keep its worker no
@@ -110,12 +115,30 @@ impl<R: HostNet + AllocGlobal + Clock + Copy + Drop> Stay<R> {
         if self.is_heard {
             return self.is_over(start);
         }
-        let served = millis(start.duration_since(self.served_since));
-        if !is_reached(self.patience(), served) {
+        if !self.is_due(start) {
             return Ok(false);
         }
         self.served_since = start;
+        self.set_look();
         Ok(self.commons.has_line(&self.rt))
+    }
+
+    // Whether it is to be looked now whether another waits.
+    fn is_due(&self, now: Instant) -> bool {
+        match self.look_at {
+            Some(at) => at <= now,
+            None => false,
+        }
+    }
+
+    // Sets when it is looked again: once the peer was served for as long as it may be waited for.
+    fn set_look(&mut self) {
+        self.look_at = match self.patience() {
+            Some(patience) => self
+                .served_since
+                .checked_add(Duration::from_millis(patience)),
+            None => None,
+        };
     }
 
     // When the wait that begins or goes on now began: within a frame, at the first call that found it so.
@@ -212,7 +235,10 @@ impl<R: HostNet + AllocGlobal + Clock + Copy + Drop> Stay<R> {
     pub fn send<W: Write>(&mut self, stream: &mut W, from: &[u8]) -> Result<(), Fault>
         ensures { OnOk result (Appended (W.contents stream.old) from.now (W.contents stream.new)) }
     {
-        self.is_answered = true;
+        if !self.is_answered {
+            self.is_answered = true;
+            self.set_look();
+        }
         self.is_heard = false;
         self.frame_began = None;
         if from.len() > limits::SHORT_PIECE {
@@ -272,6 +298,8 @@ impl<R: HostNet + AllocGlobal + Clock + Copy + Drop> Stay<R> {
 }
 
 // Ends the connection. What the peer sent before is still given; from then on it can send nothing.
+#[cold]
+#[inline(never)]
 fn let_go(stream: &mut UnixStream, into: &mut [u8]) -> Result<usize, Fault>
     ensures within { IfOk result (λ count. count ≤ length into.old) }
 {
