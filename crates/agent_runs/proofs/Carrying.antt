@@ -1,7 +1,7 @@
 -- What went over a link in calls one after the other.
 use Rattle.std.proofs.Common.{◌≡◌, ◌<◌, ℕ, List, [], ◌++◌, Bool, true, false, ◌&&◌, ◌||◌, ltb, eqb, Some, Ok, refl, sym, ap, ◌∙◌, subst, append_assoc, append-nil, arith}
 use Rattle.std.proofs.lemmas.Bool.Decides.{nat_tests}
-use Rattle.link_ports.specs.Told.{KeepsTold, ChangesTold}
+use Rattle.link_ports.specs.Told.{ChangesTold}
 use Rattle.link_ports.specs.Traffic.{Traffic, with_received, with_sent}
 use Rattle.link_ports.specs.LinkMarks.{LinkMarks, marks_after_receive}
 use Rattle.agent_runs.specs.LinkSeen.{LinkSeen, with_end, Carries}

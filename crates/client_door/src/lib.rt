@@ -15,6 +15,7 @@ mod judging;
 mod keeping;
 mod laws;
 mod outboxes;
+mod pieces;
 mod readings;
 mod recording;
 mod spelling;

@@ -3,6 +3,10 @@ ghost use Rattle.std.specs.Prelude.{◌≡◌};
 
 use crate::shown::shown;
 use desk_ports::{FileName, Sink};
+use folder_names::{
+    APPS, BUCKET_FRONT, BUCKETS, LOAD_FRONT, MAIN_FILE, MANIFESTS_FILE, STAMP, TEMPLATE, USERS,
+    is_list,
+};
 use run_endings::{Ending, note_text};
 use std::alloc::{AllocError, Global};
 
@@ -34,22 +38,22 @@ fn damage_words(alloc: Global, file: &FileName, line: u32) -> Result<String, All
 
 // What may be wrong with a file as a whole.
 fn whole_file_words(name: &[u8]) -> &'static str {
-    if name == b"list".as_slice() || name == b"list~".as_slice() {
+    if is_list(name) || name == b"list~".as_slice() {
         return "it is the line `version 2` and then the names of the set's files, a line each, in order, and each is there";
     }
-    if name == b"_MAIN".as_slice() {
+    if name == MAIN_FILE {
         return "it is absent, or is not what `users` decides";
     }
-    if name == b"_MANIFESTS".as_slice() {
+    if name == MANIFESTS_FILE {
         return "it is absent, or is not what `apps` decides";
     }
-    if name == b"buckets".as_slice() {
+    if name == BUCKETS {
         return "it is absent, or a bucket leads back to itself, one of the layout is missing, or MAIN or MANIFESTS does not deny";
     }
-    if name.starts_with(b"_") {
+    if name.starts_with(BUCKET_FRONT) {
         return "it is absent, or `buckets` has no such bucket";
     }
-    if name.starts_with(b"r.") {
+    if name.starts_with(LOAD_FRONT) {
         return "it is absent, `apps` has no such package, or it is not what `template` gives it";
     }
     "it is absent, or is no file of a store"
@@ -57,19 +61,19 @@ fn whole_file_words(name: &[u8]) -> &'static str {
 
 // What a line of the file has to be.
 fn line_words(name: &[u8]) -> &'static str {
-    if name == b"stamp".as_slice() {
+    if name == STAMP {
         return "it is one line, the number of the last commit";
     }
-    if name == b"buckets".as_slice() {
+    if name == BUCKETS {
         return "a line is NAME;KIND;METADATA, the names rise, and the first is empty, for the root";
     }
-    if name == b"users".as_slice() {
+    if name == USERS {
         return "a line is UID;TYPE, and the numbers rise";
     }
-    if name == b"apps".as_slice() {
+    if name == APPS {
         return "a line is PACKAGE;AUTHOR;APP;SCOPE and ;PRIVILEGE for each, the lines rise, and users of a scope are there";
     }
-    if name == b"template".as_slice() {
+    if name == TEMPLATE {
         return "a line is SUBJECT OBJECT MODES or SUBJECT OBJECT ALLOW DENY, and there are at most 64";
     }
     "a line is CLIENT;USER;PRIVILEGE;KIND;METADATA, the keys rise, and a bucket that one points to is there"

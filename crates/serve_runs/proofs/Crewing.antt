@@ -8,6 +8,7 @@ use Rattle.link_ports.specs.Traffic.{Traffic}
 use Rattle.link_ports.specs.LinkMarks.{LinkMarks}
 use Rattle.link_ports.specs.declared.door_kinds.DoorKind.{DoorKind}
 use Rattle.desk_state.specs.DeskState.{DeskState}
+use Rattle.live_roll.specs.declared.events.Event.{Event}
 use Rattle.live_desk.specs.Seat.{SeatState, new_seat, new_seats}
 use Rattle.server_hall.specs.StopNews.{StopsTold, unasked}
 use Rattle.desk_server.specs.Visit.{Visit, Works, EndsWorking, door_faults_after}
@@ -138,14 +139,16 @@ module _ {S L J E X : Type 0} (state : SeatState → X → S) (visits : S → Vi
 module _ {S L J E X : Type 0} (state : SeatState → X → S) (seat_of : S → SeatState)
     (seat_is : (seat : SeatState) (duty : X) → seat_of (state seat duty) ≡ seat) (visits : S → Visit L → S → Type 0)
     (traffic : L → Option Traffic) (marks : L → LinkMarks) (faults : L → ℕ)
-    (given_back : E → Option (List L)) (door_faults : E → ℕ) (kind : E → Option DoorKind) (published : List DeskState) where
+    (given_back : E → Option (List L)) (door_faults : E → ℕ) (kind : E → Option DoorKind) (published : List DeskState)
+    (events : List Event) where
   works_for : (station now : Station J X) (end : WorkerEnd) (door door_now : E) (told : StopsTold) → door_faults door ≡ 0
       → WorksAt state visits traffic marks faults given_back door_faults end station now door door_now unasked told
-      → HasSeenOf published (seat_at now)
-      → WorksFor seat_of visits traffic marks faults given_back door_faults kind published (post_at state station) (post_at state now) end told
-      (given_back door) door_now
+      → HasSeenOf published events (seat_at now)
+      → WorksFor seat_of visits traffic marks faults given_back door_faults kind published events (post_at state station)
+      (post_at state now) end told (given_back door) door_now
   works_for (Clients seat duty) (Clients seat_now duty_now) end door door_now told fresh works saw = (
-    subst (λ (seat : SeatState). GoesOn seat.seen published) (sym (seat_is seat_now duty_now)) saw,
+    subst (λ (seat : SeatState). GoesOn seat.seen published) (sym (seat_is seat_now duty_now)) saw.0,
+    subst (λ (seat : SeatState). IsPrefix seat.events events) (sym (seat_is seat_now duty_now)) saw.1,
     subst (λ (count : ℕ). Works visits (EndsWorking unasked told) marks faults end (state seat duty) (state seat_now duty_now)
         (given_back door) (given_back door_now) count (door_faults door_now)) fresh works,
   )
@@ -160,8 +163,8 @@ module _ {S L J E X : Type 0} (state : SeatState → X → S) (seat_of : S → S
   kinds Agents = refl
 
   serves_one : (station : Station J X) (opened now : Worker J E X) → StandsAt given_back door_faults kind station opened
-      → (worked : HasWorked state visits traffic marks faults given_back door_faults kind opened now) → SawOnly published now
-      → Serves seat_of visits traffic marks faults given_back door_faults kind published (post_at state station)
+      → (worked : HasWorked state visits traffic marks faults given_back door_faults kind opened now) → SawOnly published events now
+      → Serves seat_of visits traffic marks faults given_back door_faults kind published events (post_at state station)
       (record { end = worked.end; door = now.door; left = post_at state now.station })
   serves_one station opened now stands worked saw =
       record {
@@ -177,7 +180,7 @@ module _ {S L J E X : Type 0} (state : SeatState → X → S) (seat_of : S → S
   -- what a crew did that has ended
   pub record Ended (stations : List (Station J X)) (now : List (Worker J E X)) : Type 0 where
     pub crew : List (EndedWorker S E)
-    pub serves : AllZip (Serves seat_of visits traffic marks faults given_back door_faults kind published)
+    pub serves : AllZip (Serves seat_of visits traffic marks faults given_back door_faults kind published events)
         (map (post_at state) stations) crew
     pub doors : doors_of crew ≡ map door_of now
     pub lacks : lacks_memory (ends_of crew) ≡ list_any worker_lacked now
@@ -192,7 +195,7 @@ module _ {S L J E X : Type 0} (state : SeatState → X → S) (seat_of : S → S
   pub all_ended : (stations : List (Station J X)) (opened now : List (Worker J E X))
       → AllZip (StandsAt given_back door_faults kind) stations opened
       → AllZip (HasWorked state visits traffic marks faults given_back door_faults kind) opened now
-      → AllByRecursion (SawOnly published) now → Ended stations now
+      → AllByRecursion (SawOnly published events) now → Ended stations now
   all_ended [] [] [] stand worked saw = record { crew = []; serves = tt; doors = refl; lacks = refl; left = ([], refl, refl) }
   all_ended [] [] (w ∷ now) stand worked saw = absurd worked
   all_ended [] (o ∷ opened) now stand worked saw = absurd stand
@@ -218,20 +221,20 @@ alone_first alone false rest is none = is ∙ sym none
 module _ {S L E : Type 0} (seat_of : S → SeatState) (visits : S → Visit L → S → Type 0)
     (traffic : L → Option Traffic) (marks : L → LinkMarks) (faults : L → ℕ)
     (given_back : E → Option (List L)) (door_faults : E → ℕ) (kind : E → Option DoorKind) (published : List DeskState)
-    (before after : ℕ) where
+    (events : List Event) (before after : ℕ) where
   abbrev For : Option S → Option S → WorkerEnd → StopsTold → Option (List L) → E → Type 0
-  For = WorksFor seat_of visits traffic marks faults given_back door_faults kind published
+  For = WorksFor seat_of visits traffic marks faults given_back door_faults kind published events
 
   counted : (post left : Option S) (end : WorkerEnd) (told : StopsTold) (given : Option (List L)) (door : E)
       → For post left end told given door → door_faults door ≡ door_faults_after end 0
-  counted (Some start) (Some now) end told given door (saw, works) = works.counted
+  counted (Some start) (Some now) end told given door (saw, knew, works) = works.counted
   counted None None end told given door works = works.counted
   counted (Some start) None end told given door works = absurd works
   counted None (Some now) end told given door works = absurd works
 
   never_alone : (post left : Option S) (end : WorkerEnd) (told : StopsTold) (given : Option (List L)) (door : E)
       → For post left end told given door → is_alone end ≡ false
-  never_alone (Some start) (Some now) Alone told given door (saw, works) = absurd works.ending
+  never_alone (Some start) (Some now) Alone told given door (saw, knew, works) = absurd works.ending
   never_alone None None Alone told given door works = absurd works.ending
   never_alone (Some start) None Alone told given door works = absurd works
   never_alone None (Some now) Alone told given door works = absurd works
@@ -242,7 +245,7 @@ module _ {S L E : Type 0} (seat_of : S → SeatState) (visits : S → Visit L �
 
   -- no worker of clients or of agents ends alone
   pub none_alone : (posts : List (Option S)) (crew : List (EndedWorker S E))
-      → AllZip (Serves seat_of visits traffic marks faults given_back door_faults kind published) posts crew → is_deserted (ends_of crew) ≡ false
+      → AllZip (Serves seat_of visits traffic marks faults given_back door_faults kind published events) posts crew → is_deserted (ends_of crew) ≡ false
   none_alone [] [] serve = refl
   none_alone [] (w ∷ crew) serve = absurd serve
   none_alone (post ∷ posts) [] serve = absurd serve
@@ -251,7 +254,7 @@ module _ {S L E : Type 0} (seat_of : S → SeatState) (visits : S → Visit L �
 
   -- Each door of a worker that ended since its door failed raised the count of its net.
   pub failed_all : (posts : List (Option S)) (crew : List (EndedWorker S E))
-      → AllZip (Serves seat_of visits traffic marks faults given_back door_faults kind published) posts crew
+      → AllZip (Serves seat_of visits traffic marks faults given_back door_faults kind published events) posts crew
       → AllByRecursion (λ (door : E). CountsDoor (door_faults door) before after) (doors_of crew)
       → AllByRecursion (λ (end : WorkerEnd). end ≡ DoorFailed → HasRisen before after) (ends_of crew)
   failed_all [] [] serve counts = tt

@@ -2,12 +2,14 @@
 use Rattle.std.specs.Prelude.{◌≡◌, ℕ, Bool, true, false, List, [], ◌++◌, map, replicate, Option, Some, None}
 use Rattle.std.specs.List.{flat_map, list_any}
 use Rattle.std.specs.Option.{option_to_list}
+use mathlib.Core.List.{IsPrefix}
 use Rattle.link_ports.specs.Told.{IfTold}
 use Rattle.link_ports.specs.Traffic.{Traffic}
 use Rattle.link_ports.specs.LinkMarks.{LinkMarks}
 use Rattle.link_ports.specs.declared.door_kinds.DoorKind.{DoorKind}
 use Rattle.link_ports.specs.declared.door_kinds.DoorKind.TheVariants.{Client, Agent}
 use Rattle.desk_state.specs.DeskState.{DeskState}
+use Rattle.live_roll.specs.declared.events.Event.{Event}
 use Rattle.live_desk.specs.History.{GoesOn}
 use Rattle.live_desk.specs.Seat.{SeatState}
 use Rattle.server_hall.specs.StopNews.{StopsTold, unasked}
@@ -61,12 +63,15 @@ is_deserted ends = list_any is_alone ends
 -- By the seat in what a worker of clients hands on from one connection to the next, and by what serving a connection makes of that.
 module _ {S L E : Type 0} (seat_of : S → SeatState) (visits : S → Visit L → S → Type 0)
     (traffic : L → Option Traffic) (marks : L → LinkMarks) (faults : L → ℕ)
-    (given_back : E → Option (List L)) (door_faults : E → ℕ) (kind : E → Option DoorKind) (published : List DeskState) where
+    (given_back : E → Option (List L)) (door_faults : E → ℕ) (kind : E → Option DoorKind) (published : List DeskState)
+    (events : List Event) where
   -- The connections that a worker of this post served, one after the other, over links that its door gave it: of each `visits`
-  -- says what it was answered, at which states of those that its seat had seen by then, or `VisitsAgents` what it was asked. What
-  -- the seat has seen in all begins the one list of states that the service published.
+  -- says what it was answered, at which states of those that its seat had seen by then, and where it entered in what its seat then
+  -- knew of the roll's log; or `VisitsAgents` what it was asked. What the seat has seen in all begins the one list of states that the
+  -- service published, and what it knows begins the one log of the roll.
   abbrev pub WorksFor : Option S → Option S → WorkerEnd → StopsTold → Option (List L) → E → Type 0
   WorksFor (Some start) (Some now) end told given door = GoesOn (seat_of now).seen published
+      × IsPrefix (seat_of now).events events
       × Works visits (EndsWorking unasked told) marks faults end start now given (given_back door) 0 (door_faults door)
   WorksFor None None end told given door =
       Works (VisitsAgents traffic marks faults) (EndsWorking unasked told) marks faults end tt tt given (given_back door) 0 (door_faults door)

@@ -21,5 +21,6 @@ pub mod ReadingValues
 pub mod Refusing
 pub mod RoundTrips
 pub mod Stamping
+pub mod Staying
 pub mod TextLines
 pub mod round

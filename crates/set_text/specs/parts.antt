@@ -7,3 +7,4 @@ pub mod Rights
 pub mod Sorts
 pub mod Stages
 pub mod Standing
+pub mod Stays

@@ -186,13 +186,15 @@ fn has_kind(before: &[Install], install: &Install) -> bool
     }
 }
 
-fn same_kind(hybrid: bool, other: bool) -> bool
+/// Whether both packages are hybrid, or neither is.
+pub fn same_kind(hybrid: bool, other: bool) -> bool
     ensures { result ≡ same_kind hybrid other }
 {
     hybrid == other
 }
 
-fn same_author(author: &Option<Ident>, other: &Option<Ident>) -> bool
+/// Whether both have one author, or neither has one.
+pub fn same_author(author: &Option<Ident>, other: &Option<Ident>) -> bool
     ensures { result ≡ same_author author.now other.now }
 {
     match (author, other) {

@@ -9,14 +9,12 @@ ghost use Rattle.rule_templates.specs.Template.{template_text};
 ghost use Rattle.set_text.specs.Buckets.{buckets_text};
 ghost use Rattle.set_text.specs.FileNames as name;
 ghost use Rattle.set_text.specs.Files as word;
-ghost use Rattle.set_text.specs.IsSpelt.{IsHeading, IsPolicy, IsInstall, IsSpelt};
+ghost use Rattle.set_text.specs.IsSpelt.{IsHeading, IsPolicy, IsSpelt};
 ghost use Rattle.set_text.specs.Reading.{read_of};
-ghost use Rattle.set_text.specs.Registry.{last_uid, users_text, apps_text};
+ghost use Rattle.set_text.specs.Registry.{last_uid, users_text};
 ghost use Rattle.set_text.specs.Stamp.{stamp_text};
 
-use crate::file_names::{
-    APPS, BUCKETS, STAMP, TEMPLATE, USERS, bucket_file, known_name, load_file,
-};
+use crate::file_names::{bucket_file, known_name, load_file};
 use crate::headings::buckets_text;
 use crate::installs::apps_text;
 use crate::load_files::{package_text, packages_of};
@@ -27,6 +25,7 @@ use app_registry::Ident;
 use bucket_store::Bucket;
 use desk_ports::{Bytes, FileName, FileSet, SetFile};
 use desk_state::Desk;
+use folder_names::{APPS, BUCKETS, STAMP, TEMPLATE, USERS};
 use std::alloc::{AllocError, Global};
 
 /// The files of a policy state, each in its one spelling. They read back as this state.
@@ -55,7 +54,8 @@ fn all_files(alloc: Global, desk: &Desk) -> Result<Vec<SetFile>, AllocError>
 {
     let mut files = Vec::new(alloc);
     push_bucket_files(alloc, desk, &mut files)?;
-    push_lists(alloc, desk, &mut files)?;
+    let apps = apps_text(alloc, desk.registry().installs())?;
+    push_lists(alloc, desk, apps, &mut files)?;
     push_load_files(alloc, desk, &mut files)?;
     push_last(alloc, desk, &mut files)?;
     Ok(files)
@@ -74,7 +74,8 @@ fn push(
     push_file(known_name(alloc, name)?, text, files)
 }
 
-fn push_file(name: FileName, text: Vec<u8>, files: &mut Vec<SetFile>) -> Result<(), AllocError>
+/// Puts a file behind these.
+pub fn push_file(name: FileName, text: Vec<u8>, files: &mut Vec<SetFile>) -> Result<(), AllocError>
     ensures { OnOk result (files.new.items ≡ files.old.items ++ word.file name text.items ∷ []) }
 {
     files.push(SetFile {
@@ -107,7 +108,12 @@ fn push_buckets(
     Ok(())
 }
 
-fn push_bucket(alloc: Global, bucket: &Bucket, files: &mut Vec<SetFile>) -> Result<(), AllocError>
+/// Puts the file of a bucket behind these.
+pub fn push_bucket(
+    alloc: Global,
+    bucket: &Bucket,
+    files: &mut Vec<SetFile>,
+) -> Result<(), AllocError>
     ensures files { OnOk result (files.new.items ≡ files.old.items ++ word.file_of bucket.now ∷ []) }
     ensures spelt { OnOk result (AllByRecursion IsPolicy bucket.now.policies) }
 {
@@ -115,24 +121,31 @@ fn push_bucket(alloc: Global, bucket: &Bucket, files: &mut Vec<SetFile>) -> Resu
     push_file(bucket_file(alloc, bucket.name())?, text, files)
 }
 
-// Puts `apps` and `buckets` behind these.
-fn push_lists(alloc: Global, desk: &Desk, files: &mut Vec<SetFile>) -> Result<(), AllocError>
+/// Puts `apps`, with this text, and `buckets` behind these.
+pub fn push_lists(
+    alloc: Global,
+    desk: &Desk,
+    apps: Vec<u8>,
+    files: &mut Vec<SetFile>,
+) -> Result<(), AllocError>
     ensures files { OnOk result (files.new.items ≡ files.old.items
-        ++ (word.file name.apps (apps_text desk.now.registry.installs)
+        ++ (word.file name.apps apps.items
         ∷ word.file name.buckets (buckets_text desk.now.database.buckets) ∷ [])) }
     ensures desk { OnOk result (IsDesk desk.now) }
-    ensures installs { OnOk result (AllByRecursion IsInstall desk.now.registry.installs) }
     ensures headings { OnOk result (AllByRecursion IsHeading desk.now.database.buckets) }
 {
-    let apps = apps_text(alloc, desk.registry().installs())?;
     push(alloc, APPS, apps, files)?;
     let buckets = buckets_text(alloc, desk.database().buckets())?;
     push(alloc, BUCKETS, buckets, files)?;
     Ok(())
 }
 
-// Puts the load file of each package behind these.
-fn push_load_files(alloc: Global, desk: &Desk, files: &mut Vec<SetFile>) -> Result<(), AllocError>
+/// Puts the load file of each package behind these.
+pub fn push_load_files(
+    alloc: Global,
+    desk: &Desk,
+    files: &mut Vec<SetFile>,
+) -> Result<(), AllocError>
     ensures { OnOk result (files.new.items ≡ files.old.items ++ word.load_files desk.now) }
 {
     let packages = packages_of(alloc, desk.registry().installs())?;
@@ -155,7 +168,8 @@ fn push_loads(
     Ok(())
 }
 
-fn push_load(
+/// Puts the load file of a package, which is installed, behind these.
+pub fn push_load(
     alloc: Global,
     desk: &Desk,
     package: &Ident,
@@ -168,8 +182,8 @@ fn push_load(
     push_file(load_file(alloc, package)?, text, files)
 }
 
-// Puts `stamp`, `template` and `users` behind these.
-fn push_last(alloc: Global, desk: &Desk, files: &mut Vec<SetFile>) -> Result<(), AllocError>
+/// Puts `stamp`, `template` and `users` behind these.
+pub fn push_last(alloc: Global, desk: &Desk, files: &mut Vec<SetFile>) -> Result<(), AllocError>
     ensures files { OnOk result (files.new.items ≡ files.old.items
         ++ (word.file name.stamp (stamp_text desk.now.commit)
         ∷ word.file name.template (template_text desk.now.template)

@@ -3,12 +3,14 @@ use denote.Ref.{MutBor}
 use denote.Param.Members.{Shared}
 use Rattle.std.specs.Prelude.{◌≡◌, ℕ, Bool, false, List, [], ◌∷◌, ◌++◌, map, replicate, Option, Some, None}
 use Rattle.std.specs.Fork.{ChangesEach}
+use mathlib.Core.List.{IsPrefix}
 use Rattle.desk_ports.specs.Faults.{next_count}
 use Rattle.link_ports.specs.Told.{IfTold}
 use Rattle.link_ports.specs.Traffic.{Traffic}
 use Rattle.link_ports.specs.LinkMarks.{LinkMarks}
 use Rattle.link_ports.specs.declared.door_kinds.DoorKind.{DoorKind}
 use Rattle.desk_state.specs.DeskState.{DeskState}
+use Rattle.live_roll.specs.declared.events.Event.{Event}
 use Rattle.live_desk.specs.History.{GoesOn}
 use Rattle.live_desk.specs.Seat.{SeatState}
 use Rattle.server_hall.specs.StopNews.{StopsTold, unasked}
@@ -75,14 +77,14 @@ lacked None = false
 abbrev pub worker_lacked : {J E X : Type 0} → Worker J E X → Bool
 worker_lacked worker = lacked worker.end
 
--- what the seat has seen, where there is one, begins the states that were published
-abbrev pub HasSeenOf : List DeskState → Option SeatState → Type 0
-HasSeenOf published (Some seat) = GoesOn seat.seen published
-HasSeenOf published None = Unit {0}
+-- what the seat has seen, where there is one, begins the states that were published, and what it knows of the roll these events
+abbrev pub HasSeenOf : List DeskState → List Event → Option SeatState → Type 0
+HasSeenOf published events (Some seat) = GoesOn seat.seen published × IsPrefix seat.events events
+HasSeenOf published events None = Unit {0}
 
--- what the worker's seat has seen
-abbrev pub SawOnly : {J E X : Type 0} → List DeskState → Worker J E X → Type 0
-SawOnly published worker = HasSeenOf published (seat_at worker.station)
+-- what the worker's seat has seen, and knows
+abbrev pub SawOnly : {J E X : Type 0} → List DeskState → List Event → Worker J E X → Type 0
+SawOnly published events worker = HasSeenOf published events (seat_at worker.station)
 
 -- A door whose `accept` has failed raises the count of its net when it is closed.
 abbrev pub CountsDoor : ℕ → ℕ → ℕ → Type 0

@@ -9,6 +9,9 @@ use Rattle.link_ports.specs.LinkMarks.{LinkMarks}
 use Rattle.link_ports.specs.declared.door_kinds.DoorKind.{DoorKind}
 use Rattle.link_ports.specs.declared.door_kinds.DoorKind.TheVariants.{Admin}
 use Rattle.desk_state.specs.DeskState.{DeskState}
+use Rattle.live_roll.specs.declared.events.Event.{Event}
+use Rattle.live_roll.specs.Events.{NoneBelow}
+use Rattle.admin_door.specs.Hanging.{AreHung}
 use Rattle.desk_keeper.specs.Keeper.{IsSameDisk}
 use Rattle.desk_keeper.specs.declared.keeper.Keeper.{Keeper}
 use Rattle.server_hall.specs.StopNews.{StopsTold, unasked}
@@ -30,11 +33,11 @@ pub record Knocks {N C : Type 0} (net_faults : N → ℕ) (net_closed : N → Op
   pub no_less : net_faults old ≤ net_faults new
   pub closed : net_closed new ≡ net_closed old
 
--- Administrators were served until their worker ended.
+-- Administrators were served until their worker ended. By then this front of the roll's log was known to it.
 pub record Officiates {D L E : Type 0} (disk_faults : D → ℕ) (state : D → Option DiskState) (moment : D → ℕ)
     (left_since : D → ℕ → FileMap → Type 0) (traffic : L → Option Traffic) (marks : L → LinkMarks)
     (faults : L → ℕ) (given_back : E → Option (List L)) (door_faults : E → ℕ) (kind : E → Option DoorKind)
-    (end : WorkerEnd) (keeper keeper_now : Keeper D) (published published_now : List DeskState) (door door_now : E) : Type 0 where
+    (end : WorkerEnd) (keeper keeper_now : Keeper D) (published published_now : List DeskState) (door door_now : E) (hangs : List Event) : Type 0 where
   -- the frames that came, each with its answer
   pub frames : List Exchange
   pub told : StopsTold
@@ -42,6 +45,7 @@ pub record Officiates {D L E : Type 0} (disk_faults : D → ℕ) (state : D → 
       (office_of disk_faults keeper published []) (office_of disk_faults keeper_now published_now frames)
       (given_back door) (given_back door_now) (door_faults door) (door_faults door_now)
   pub runs : RunsOver state moment left_since keeper keeper_now frames
+  pub hung : AreHung hangs frames
   pub same_disk : IsSameDisk keeper keeper_now
   pub same_kind : kind door_now ≡ kind door
 
@@ -64,8 +68,11 @@ pub record Staffs {S D L E X : Type 0} (state_of : SeatState → X → S) (seat_
       (office_of disk_faults keeper (keeper.desk ∷ []) []) (office_of disk_faults keeper_now published frames)
       given (given_back door) 0 (door_faults door)
   pub runs : RunsOver state moment left_since keeper keeper_now frames
+  pub events : List Event
+  pub none_below : NoneBelow events
+  pub hung : AreHung events frames
   pub crew : List (EndedWorker S E)
-  pub serves : AllZip (Serves seat_of visits traffic marks faults given_back door_faults kind published) posts crew
+  pub serves : AllZip (Serves seat_of visits traffic marks faults given_back door_faults kind published events) posts crew
   pub left : AreStatesOf state_of duties (left_by crew)
   pub doors : ClosesDoors closed (door ∷ doors_of crew) closed_now
   pub memory : lacked ≡ lacks_memory (end ∷ ends_of crew)
