@@ -15,7 +15,6 @@ mod judging;
 mod keeping;
 mod laws;
 mod outboxes;
-mod pieces;
 mod readings;
 mod recording;
 mod spelling;
