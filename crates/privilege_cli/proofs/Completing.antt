@@ -1,5 +1,5 @@
 -- A run that no failing call stops.
-use Rattle.std.proofs.Common.{◌≡◌, ◌∙◌, ◌<◌, ◌⊎◌, ◌++◌, inl, inr, ℕ, false, true, List, [], Option, Some, refl, sym, ap, subst, arith}
+use Rattle.std.proofs.Common.{◌≡◌, ◌∙◌, ◌<◌, ◌⊎◌, ◌++◌, inl, inr, ℕ, false, true, List, [], Option, Some, None, refl, sym, ap, subst, arith}
 use Rattle.desk_ports.specs.Faults.{last_count}
 use Rattle.desk_ports.specs.Content.{Appended}
 use Rattle.link_ports.specs.declared.dials.Dial.{Ghosts as DialTells}
@@ -13,13 +13,16 @@ use Rattle.run_endings.specs.declared.endings.Ending.{Ending}
 use Rattle.run_endings.specs.declared.endings.Ending.TheVariants.{Done, Memory, Source, Sink, Disk, Net}
 use Rattle.run_endings.proofs.Completing.{is-unfailed, gives}
 use Rattle.command_words.specs.declared.commands.Command.{Command}
-use Rattle.command_words.specs.declared.commands.Command.TheVariants.{Local, SmackAccess, SmackLoad, Sample, Serve, Watch, Check, Simple, Admin}
+use Rattle.command_words.specs.declared.commands.Command.TheVariants.{Local, SmackAccess, SmackLoad, Sample, Serve, Watch, Check, Simple, Admin, Agent}
 use Rattle.folder_runs.proofs.Completing.{completes-load}
 use Rattle.local_runs.proofs.Completing.{completes-local}
 use Rattle.access_runs.proofs.Completing.{completes-access}
 use Rattle.sample_runs.proofs.Completing.{completes-sample}
 use Rattle.client_runs.proofs.Completing.{completes-check}
 use Rattle.admin_runs.proofs.Completing.{completes-admin}
+use Rattle.agent_runs.specs.LinkSeen.{dial_seen}
+use Rattle.agent_runs.specs.AgentRun.{CompletesAgent}
+use Rattle.agent_runs.proofs.Completing.{completes-agent}
 use Rattle.serve_runs.proofs.Completing.{completes-plain}
 use Rattle.watch_runs.proofs.Completing.{completes-watch}
 use Rattle.privilege_cli.specs.Program.{RunsCommand, CountsDisk, WritesBy, Gives, Completes}
@@ -118,4 +121,13 @@ module _ {N L H E A J : Type 0} (dial : DialTells N L H) (link : LinkTells L H) 
         (net_still still) ending runs (not_source (unfailed writes count)) (not_sink (unfailed writes count)),
     all_said ending said before.sink after.sink none.sink writes,
   )
-  completes command runs writes count = tt
+  completes (Some (Agent kind allowed)) runs writes count = (
+    said,
+    ending,
+    status_is,
+    subst (λ n. CompletesAgent ending said.due n after.net.faults) (sym net_is)
+        (subst (λ n. CompletesAgent ending said.due (dial.faults net) n) (sym net_after_is)
+        (completes-agent kind allowed said ending (dial_seen dial link net) (dial_seen dial link net_after) (unfailed writes count) runs)),
+    all_said ending said before.sink after.sink none.sink writes,
+  )
+  completes None runs writes count = tt

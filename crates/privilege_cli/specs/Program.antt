@@ -31,7 +31,7 @@ use Rattle.sample_runs.specs.SampleRun.{RunsSample}
 use Rattle.client_runs.specs.CheckRun.{RunsCheck, CompletesCheck}
 use Rattle.admin_runs.specs.AdminRun.{RunsAdmin, CompletesAdmin}
 use Rattle.agent_runs.specs.LinkSeen.{dial_seen}
-use Rattle.agent_runs.specs.AgentRun.{RunsAgent}
+use Rattle.agent_runs.specs.AgentRun.{RunsAgent, CompletesAgent}
 use Rattle.serve_runs.specs.Run.{RunsPlain}
 use Rattle.watch_runs.specs.Watching.{RunsWatch, WritesLast}
 
@@ -94,7 +94,10 @@ module _ {N L H : Type 0} (dial : DialTells N L H) (link : LinkTells L H) (net n
   Completes (Some Admin) status before after = Unraised before.net.faults after.net.faults
       → SaysAll status before after (λ said ending. CompletesAdmin link.faults link.marks link.traffic dial.faults dial.dials
       dial.given_back said ending before.source after.source net net_after)
-  Completes command status before after = Unit {0}
+  -- where the service ends the connection, an agent has done its work, though the net counts that
+  Completes (Some (Agent kind allowed)) status before after =
+      SaysAll status before after (λ said ending. CompletesAgent ending said.due before.net.faults after.net.faults)
+  Completes None status before after = Unit {0}
 
 -- ---- the whole
 
