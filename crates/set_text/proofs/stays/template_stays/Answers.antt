@@ -8,5 +8,5 @@ returns c =
     let texts = same-texts c.as_slice.result.now c.as_slice-2.result.now c.ne.result c.ne.ensures c.if-ne.false in
     sym c.template.ensures.template
     ∙ same-read c.in_ok-old.old.items c.in_ok-new.new.items c.template.result.now c.template-2.result.now
-    (sym c.as_slice.ensures.value ∙ texts ∙ c.as_slice-2.ensures.value) c.in_ok-old.ensures.again c.in_ok-new.ensures.again
+    (sym c.as_slice.ensures ∙ texts ∙ c.as_slice-2.ensures) c.in_ok-old.ensures.again c.in_ok-new.ensures.again
     ∙ c.template-2.ensures.template
