@@ -1,4 +1,5 @@
 use Rattle.std.proofs.Common.{◌≡◌, ◌++◌, ◌∷◌, [], ap, ◌∙◌, rules}
+use Rattle.std.proofs.lemmas.Bool.Decides.{when_true}
 use Rattle.desk_state.specs.DeskState.{package_rules}
 use Rattle.set_text.specs.Fault.{bytes_in}
 use Rattle.set_text.specs.FileNames.{load_file}
@@ -14,7 +15,7 @@ pub returns : goal.returns
 returns c =
     let desk = c.args.desk.now in
     let «package» = c.args.«package».now in
-    let keeps = c.if-not-package_stays.ensures in
+    let keeps = when_true _ _ c.if-not-package_stays.false c.package_stays.ensures in
     let name : c.in_ok-name.name ≡ load_file «package» = search rules in
     let bytes : bytes_in c.args.held.now c.in_ok-name.name ≡ load_text (package_rules desk «package») =
     ap (bytes_in c.args.held.now) name

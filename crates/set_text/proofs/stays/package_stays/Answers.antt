@@ -1,4 +1,5 @@
 use Rattle.std.proofs.Common.{List, filter, sym, ap, ◌∙◌}
+use Rattle.std.proofs.lemmas.Bool.Decides.{when_true}
 use Rattle.app_registry.specs.Install.{is_of_package}
 use Rattle.app_registry.specs.Registry.{RegistryLists}
 use Rattle.app_registry.specs.declared.installs.Install.{Install}
@@ -13,7 +14,7 @@ returns c =
     ap (λ (registry : RegistryLists). filter (is_of_package c.args.«package».now) registry.installs)
     (sym c.registry.ensures.registry)
     ∙ sym c.installs_of-old.ensures
-    ∙ c.if-not-same_installs.ensures
+    ∙ when_true _ _ c.if-not-same_installs.false c.same_installs.ensures
     ∙ c.installs_of-new.ensures
     ∙ ap (λ (registry : RegistryLists). filter (is_of_package c.args.«package».now) registry.installs)
     c.registry-2.ensures.registry
