@@ -79,8 +79,8 @@ fn next_apps(
     ensures spelt { OnOk result (AllByRecursion IsInstall desk.now.registry.installs) }
 {
     if stay {
-        let kept = bytes_of(held, APPS).to_vec(alloc)?;
-        return Ok(kept);
+        let text = bytes_of(held, APPS).to_vec(alloc)?;
+        return Ok(text);
     }
     let text = apps_text(alloc, desk.registry().installs())?;
     Ok(text)

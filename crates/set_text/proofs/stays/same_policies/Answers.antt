@@ -1,0 +1,15 @@
+use Rattle.std.proofs.Common.{arith}
+use Rattle.std.proofs.lemmas.Bool.Decides.{when_true}
+use Rattle.set_text.proofs.Staying.{alike-all, alike-more}
+use Rattle.set_text.proofs.stays.same_policies.Goals as goal
+
+pub loop-at-preserved : goal.loop-at-preserved
+loop-at-preserved c =
+    alike-more c.args.one.now c.args.other.now c.loop-at.at c.policy_at.result.now c.policy_at-2.result.now
+    c.loop-at.invariant c.policy_at.ensures c.policy_at-2.ensures
+    (when_true _ _ c.if-not-is_same_policy.false c.is_same_policy.ensures)
+
+pub returns : goal.returns
+returns c =
+    alike-all c.args.one.now c.args.other.now c.if-len.false
+    (λ k less. c.loop-at.invariant k (omega (arith, less)))
