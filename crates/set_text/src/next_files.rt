@@ -40,12 +40,12 @@ pub fn write_next(
     ensures files { IfOk result (λ set. set ≡ word.files desk.now) }
     ensures again { IfOk result (λ set. read_of set ≡ Ok desk.now) }
 {
-    let files = all_next_files(alloc, before, held.as_slice(), desk)?;
+    let files = next_files(alloc, before, held.as_slice(), desk)?;
     Ok(FileSet::of(files))
 }
 
 // All files, in the order of their names.
-fn all_next_files(
+fn next_files(
     alloc: Global,
     before: &Desk,
     held: &[SetFile],

@@ -8,8 +8,8 @@ use Rattle.set_text.proofs.Staying.{set-of}
 use Rattle.set_text.proofs.round.BackAgain.{written-is-read}
 use Rattle.set_text.proofs.next_files.write_next.Goals as goal
 
-pub all_next_files-requires : goal.all_next_files-requires
-all_next_files-requires c =
+pub next_files-requires : goal.next_files-requires
+next_files-requires c =
     subst (IsSetOf c.args.before.now) (sym c.as_slice.ensures.files)
     (set-of c.args.before.now c.args.held.now c.as_slice.ensures.rising c.requires)
 

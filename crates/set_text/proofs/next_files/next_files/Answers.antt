@@ -9,7 +9,7 @@ use Rattle.set_text.specs.Registry.{apps_text, users_text}
 use Rattle.set_text.specs.Stamp.{stamp_text}
 use Rattle.set_text.proofs.Placing.{four-parts}
 use Rattle.set_text.proofs.Staying.{apps-stay}
-use Rattle.set_text.proofs.next_files.all_next_files.Goals as goal
+use Rattle.set_text.proofs.next_files.next_files.Goals as goal
 
 pub next_apps-requires-clause-rising : goal.next_apps-requires-clause-rising
 next_apps-requires-clause-rising c = c.requires.rising
