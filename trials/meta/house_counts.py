@@ -15,7 +15,7 @@ WIDTH = 120
 MOST_PARAMETERS = 7
 REFUSALS = ("VaultRefusal", "KeeperRefusal", "Unsettled", "Message")
 STATE_FILES = re.compile(r'b"(?:stamp|buckets|users|apps|_[A-Z]*|r\.)"')
-STORE = ("folder_names", "folder_disk", "guard_files", "desk_keeper", "script_notes", "set_text")
+STORE = ("folder_disk", "guard_files", "desk_keeper", "script_notes", "set_text")
 FUNCTION = re.compile(r"(?m)^[ \t]*((?:pub(?:\([a-z]+\))? )?)(?:const |unsafe |extern \"C\" )*fn (\w+)")
 
 

@@ -4,7 +4,26 @@ ghost use Rattle.desk_ports.specs.FileName.{IsFileName};
 ghost use Rattle.folder_disk.specs.StoreNames as own;
 
 use arrayvec::ArrayString;
-use folder_names::{is_backup, is_desk_name, is_guard, is_list};
+
+const LIST: &[u8] = b"list";
+
+const GUARD: &[u8] = b"guard";
+
+const STAMP: &[u8] = b"stamp";
+
+const BUCKETS: &[u8] = b"buckets";
+
+const USERS: &[u8] = b"users";
+
+const APPS: &[u8] = b"apps";
+
+const TEMPLATE: &[u8] = b"template";
+
+const BUCKET: &[u8] = b"_";
+
+const RULES: &[u8] = b"r.";
+
+const TILDE: &[u8] = b"~";
 
 /// A name, for a person to read.
 type ShownName = ArrayString<255>;
@@ -103,12 +122,14 @@ fn shown_name(name: &[u8]) -> ShownName
 fn is_mark(name: &[u8]) -> bool
     ensures { result ≡ own.is_mark name.now }
 {
-    is_list(name) || is_guard(name)
+    name == LIST || name == GUARD
 }
 
 #[tactic(auto, unfolding(crate::specs::StoreNames::is_primary))]
 fn is_primary(name: &[u8]) -> bool
     ensures { result ≡ own.is_primary name.now }
 {
-    is_desk_name(name) && !is_backup(name)
+    ((name == STAMP || name == BUCKETS || name == USERS || name == APPS || name == TEMPLATE)
+        || (name.starts_with(BUCKET) || name.starts_with(RULES)))
+        && !name.ends_with(TILDE)
 }

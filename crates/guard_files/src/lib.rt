@@ -17,12 +17,11 @@ mod survey;
 mod surveying;
 mod vault;
 
-pub use folder_names::{is_backup, is_guard, is_list};
 pub use laws::{agreement_keeps_recovery, list_reads_back};
 pub use list_files::{backup_of, backups_of, has_name, list_bytes, names_without};
 pub use list_reading::read_list;
 pub use mounted::Mounted;
-pub use own_names::{is_listable, is_own};
+pub use own_names::{is_backup, is_guard, is_list, is_listable, is_own};
 pub use prepared::Prepared;
 pub use refusals::{VaultRefusal, refusal_of};
 pub use save::save_set;

@@ -1,12 +1,61 @@
 // Which names a store has of its own in its folder.
 ghost use Rattle.std.specs.Prelude.{◌≡◌};
 ghost use Rattle.std.specs.List.{list_all};
+ghost use Rattle.std.specs.Str.{bytes_eq};
 ghost use Rattle.desk_ports.specs.FileName.{is_file_name_byte};
 ghost use Rattle.guard_files.specs.OwnName as own;
 
-use folder_names::{is_backup, is_desk_name, is_guard, is_list};
+const GUARD: &[u8] = b"guard";
+
+const LIST: &[u8] = b"list";
+
+const STAMP: &[u8] = b"stamp";
+
+const BUCKETS: &[u8] = b"buckets";
+
+const USERS: &[u8] = b"users";
+
+const APPS: &[u8] = b"apps";
+
+const TEMPLATE: &[u8] = b"template";
+
+const BUCKET: &[u8] = b"_";
+
+const RULES: &[u8] = b"r.";
+
+const TILDE: &[u8] = b"~";
 
 const MOST_LISTABLE: usize = 254;
+
+/// Whether the name is the guard's.
+pub fn is_guard(name: &[u8]) -> bool
+    ensures { result ≡ bytes_eq name.now own.guard_name }
+{
+    name == GUARD
+}
+
+/// Whether the name is the list's.
+pub fn is_list(name: &[u8]) -> bool
+    ensures { result ≡ bytes_eq name.now own.list_name }
+{
+    name == LIST
+}
+
+#[tactic(auto, unfolding(crate::specs::OwnName::is_backup))]
+/// Whether the name is that of a backup: it ends with `~`.
+pub fn is_backup(name: &[u8]) -> bool
+    ensures { result ≡ own.is_backup name.now }
+{
+    name.ends_with(TILDE)
+}
+
+#[tactic(auto, unfolding(crate::specs::OwnName::is_desk_name))]
+fn is_desk_name(name: &[u8]) -> bool
+    ensures { result ≡ own.is_desk_name name.now }
+{
+    (name == STAMP || name == BUCKETS || name == USERS || name == APPS || name == TEMPLATE)
+        || (name.starts_with(BUCKET) || name.starts_with(RULES))
+}
 
 #[tactic(auto, unfolding(crate::specs::OwnName::is_primary))]
 fn is_primary(name: &[u8]) -> bool

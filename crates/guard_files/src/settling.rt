@@ -15,14 +15,13 @@ ghost use Rattle.guard_files.specs.parts.Changes.{after, removals, primary_chang
 
 use crate::list_files::{backups_of, has_name, list_bytes};
 use crate::mounted::Mounted;
-use crate::own_names::is_own;
+use crate::own_names::{is_backup, is_guard, is_list, is_own};
 use crate::refusals::VaultRefusal;
 use crate::save::save_set;
 use crate::steps::{lower_guard, remove_files, save_primaries};
 use crate::store_names::StoreNames;
 use crate::survey::Survey;
 use desk_ports::{Disk, Failed, FileName, FileSet, SetFile};
-use folder_names::{is_backup, is_guard, is_list};
 use std::alloc::{AllocError, Global};
 
 // Whether a set has a file of this name.

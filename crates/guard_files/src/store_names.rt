@@ -3,7 +3,6 @@ ghost use Rattle.desk_ports.specs.FileName.{IsFileName};
 ghost use Rattle.guard_files.specs.OwnName.{guard_name, list_name, backup_name};
 
 use desk_ports::{FileName, FileNameRefusal};
-use folder_names::{GUARD, LIST};
 use std::alloc::{AllocError, Global};
 
 /// The fixed names of a store's folder, made once so that a save takes no memory for them.
@@ -21,8 +20,8 @@ impl StoreNames {
     /// Refuses only for want of memory.
     pub fn new(alloc: Global) -> Result<StoreNames, AllocError> {
         Ok(StoreNames {
-            guard: fixed_name(alloc, GUARD)?,
-            list: fixed_name(alloc, LIST)?,
+            guard: fixed_name(alloc, b"guard")?,
+            list: fixed_name(alloc, b"list")?,
             list_backup: fixed_name(alloc, b"list~")?,
         })
     }

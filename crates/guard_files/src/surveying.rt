@@ -9,12 +9,12 @@ ghost use Rattle.guard_files.specs.Telling.{StillTells};
 ghost use Rattle.guard_files.specs.Recovery.{recover};
 ghost use Rattle.guard_files.specs.Mounted.{IfDamaged, count_after_mount, IsFound};
 
+use crate::own_names::is_guard;
 use crate::refusals::{VaultRefusal, refusal_of};
 use crate::set_reading::{Found, read_set};
 use crate::store_names::StoreNames;
 use crate::survey::Survey;
 use desk_ports::{Disk, FileName};
-use folder_names::is_guard;
 use std::alloc::Global;
 
 fn has_guard(names: &[FileName]) -> bool

@@ -3,10 +3,6 @@ ghost use Rattle.std.specs.Prelude.{◌≡◌};
 
 use crate::shown::shown;
 use desk_ports::{FileName, Sink};
-use folder_names::{
-    APPS, BUCKET_FRONT, BUCKETS, LOAD_FRONT, MAIN_FILE, MANIFESTS_FILE, STAMP, TEMPLATE, USERS,
-    is_list,
-};
 use run_endings::{Ending, note_text};
 use std::alloc::{AllocError, Global};
 
@@ -38,22 +34,22 @@ fn damage_words(alloc: Global, file: &FileName, line: u32) -> Result<String, All
 
 // What may be wrong with a file as a whole.
 fn whole_file_words(name: &[u8]) -> &'static str {
-    if is_list(name) || name == b"list~".as_slice() {
+    if name == b"list".as_slice() || name == b"list~".as_slice() {
         return "it is the line `version 2` and then the names of the set's files, a line each, in order, and each is there";
     }
-    if name == MAIN_FILE {
+    if name == b"_MAIN".as_slice() {
         return "it is absent, or is not what `users` decides";
     }
-    if name == MANIFESTS_FILE {
+    if name == b"_MANIFESTS".as_slice() {
         return "it is absent, or is not what `apps` decides";
     }
-    if name == BUCKETS {
+    if name == b"buckets".as_slice() {
         return "it is absent, or a bucket leads back to itself, one of the layout is missing, or MAIN or MANIFESTS does not deny";
     }
-    if name.starts_with(BUCKET_FRONT) {
+    if name.starts_with(b"_") {
         return "it is absent, or `buckets` has no such bucket";
     }
-    if name.starts_with(LOAD_FRONT) {
+    if name.starts_with(b"r.") {
         return "it is absent, `apps` has no such package, or it is not what `template` gives it";
     }
     "it is absent, or is no file of a store"
@@ -61,19 +57,19 @@ fn whole_file_words(name: &[u8]) -> &'static str {
 
 // What a line of the file has to be.
 fn line_words(name: &[u8]) -> &'static str {
-    if name == STAMP {
+    if name == b"stamp".as_slice() {
         return "it is one line, the number of the last commit";
     }
-    if name == BUCKETS {
+    if name == b"buckets".as_slice() {
         return "a line is NAME;KIND;METADATA, the names rise, and the first is empty, for the root";
     }
-    if name == USERS {
+    if name == b"users".as_slice() {
         return "a line is UID;TYPE, and the numbers rise";
     }
-    if name == APPS {
+    if name == b"apps".as_slice() {
         return "a line is PACKAGE;AUTHOR;APP;SCOPE and ;PRIVILEGE for each, the lines rise, and users of a scope are there";
     }
-    if name == TEMPLATE {
+    if name == b"template".as_slice() {
         return "a line is SUBJECT OBJECT MODES or SUBJECT OBJECT ALLOW DENY, and there are at most 64";
     }
     "a line is CLIENT;USER;PRIVILEGE;KIND;METADATA, the keys rise, and a bucket that one points to is there"

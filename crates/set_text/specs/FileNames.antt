@@ -1,8 +1,22 @@
 -- The names of the files.
 use Rattle.std.specs.Prelude.{ℕ, Bool, false, not, ◌&&◌, ◌||◌, ◌==◌, List, [], ◌∷◌, ◌++◌, codes}
 use Rattle.cynara_keys.specs.BucketName.{is_bucket_name}
-pub use Rattle.folder_names.specs.FolderNames.{stamp, buckets, users, apps, template}
 use Rattle.set_text.specs.Registry.{is_ident}
+
+abbrev pub stamp : List ℕ
+stamp = codes "stamp"
+
+abbrev pub buckets : List ℕ
+buckets = codes "buckets"
+
+abbrev pub users : List ℕ
+users = codes "users"
+
+abbrev pub apps : List ℕ
+apps = codes "apps"
+
+abbrev pub template : List ℕ
+template = codes "template"
 
 -- the files that every set has, in order
 abbrev pub fixed_files : List (List ℕ)

@@ -14,14 +14,13 @@ ghost use Rattle.set_text.specs.Refusal.{Refuses};
 ghost use Rattle.set_text.specs.parts.Names.{RefusesTest};
 ghost use Rattle.set_text.specs.parts.Parts.{headings_part};
 
-use crate::file_names::{Sort, bucket_file};
+use crate::file_names::{BUCKETS, Sort, bucket_file};
 use crate::headings::{BucketHeading, read_headings};
 use crate::policies::read_policies;
 use crate::refusals::TextRefusal;
 use crate::sets::{bytes_of, in_file, test_names};
 use bucket_store::Bucket;
 use desk_ports::{FileName, SetFile};
-use folder_names::BUCKETS;
 use std::alloc::{AllocError, Global};
 
 /// Reads `buckets`.

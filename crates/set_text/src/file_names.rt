@@ -10,8 +10,22 @@ ghost use Rattle.set_text.specs.parts.Sorts.{is_of};
 use app_registry::{Ident, IdentRefusal};
 use cynara_keys::{BucketName, BucketNameRefusal};
 use desk_ports::{FileName, FileNameRefusal};
-use folder_names::{APPS, BUCKETS, STAMP, TEMPLATE, USERS};
 use std::alloc::{AllocError, Global};
+
+/// The file of the installs.
+pub const APPS: &[u8] = b"apps";
+
+/// The file of the buckets and their fallbacks.
+pub const BUCKETS: &[u8] = b"buckets";
+
+/// The file of the commit number.
+pub const STAMP: &[u8] = b"stamp";
+
+/// The file of the rule template.
+pub const TEMPLATE: &[u8] = b"template";
+
+/// The file of the users.
+pub const USERS: &[u8] = b"users";
 
 /// The sorts of files.
 #[derive(Clone, Copy)]

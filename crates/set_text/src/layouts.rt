@@ -19,6 +19,7 @@ ghost use Rattle.set_text.specs.parts.Names.{RefusesTest};
 ghost use Rattle.set_text.specs.parts.Parts.{has_all, has_name, has_some, is_empty, layout_fault_of, managed_fault_of};
 ghost use Rattle.set_text.specs.parts.Parts.{fallback_fault_of};
 
+use crate::file_names::BUCKETS;
 use crate::headings::{BucketHeading, has_heading};
 use crate::policies::bucket_text;
 use crate::refusals::TextRefusal;
@@ -27,7 +28,6 @@ use app_registry::{Registry, User, UserType, user_name};
 use bucket_store::{Bucket, has_cycle};
 use cynara_keys::{Field, Key, Kind, Metadata, MetadataRefusal, Policy, PolicyResult};
 use desk_ports::SetFile;
-use folder_names::{BUCKETS, MAIN_FILE, MANIFESTS_FILE};
 use std::alloc::{AllocError, Global};
 
 const MAIN: &[u8] = b"MAIN";
@@ -145,11 +145,11 @@ pub fn test_managed(
         Ok(text) => text,
         Err(error) => return Err(TextRefusal::Memory(error)),
     };
-    if let Err(refusal) = test_text(alloc, files, MAIN_FILE, &main) {
+    if let Err(refusal) = test_text(alloc, files, b"_MAIN", &main) {
         return Err(refusal);
     }
     match manifests_text(alloc, registry) {
-        Ok(text) => test_text(alloc, files, MANIFESTS_FILE, &text),
+        Ok(text) => test_text(alloc, files, b"_MANIFESTS", &text),
         Err(error) => Err(TextRefusal::Memory(error)),
     }
 }

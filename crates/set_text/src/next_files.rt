@@ -14,7 +14,7 @@ ghost use Rattle.set_text.specs.Reading.{read_of};
 ghost use Rattle.set_text.specs.Registry.{apps_text};
 ghost use Rattle.set_text.specs.parts.Stays.{IsSetOf, IsTextOf};
 
-use crate::file_names::{bucket_file, load_file};
+use crate::file_names::{APPS, bucket_file, load_file};
 use crate::installs::apps_text;
 use crate::load_files::packages_of;
 use crate::sets::bytes_of;
@@ -24,7 +24,6 @@ use app_registry::Ident;
 use bucket_store::Bucket;
 use desk_ports::{FileName, FileSet, SetFile};
 use desk_state::Desk;
-use folder_names::APPS;
 use std::alloc::{AllocError, Global};
 
 /// The files of a policy state, as `write` makes them, where another state and its files are at hand. A bucket with the

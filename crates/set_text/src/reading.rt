@@ -17,7 +17,7 @@ ghost use Rattle.set_text.specs.parts.Parts.{stamp_part, headings_part, registry
 ghost use Rattle.set_text.specs.parts.Stages as stage;
 
 use crate::bucket_files::{buckets_in, headings_in, test_bucket_files};
-use crate::file_names::{Sort, fixed_files, load_file};
+use crate::file_names::{APPS, STAMP, Sort, TEMPLATE, USERS, fixed_files, load_file};
 use crate::headings::BucketHeading;
 use crate::layouts::{test_fallbacks, test_layout, test_managed};
 use crate::lines::FileFault;
@@ -32,7 +32,6 @@ use app_registry::{Ident, Registry};
 use bucket_store::{Bucket, Database};
 use desk_ports::{FileName, FileSet, SetFile};
 use desk_state::Desk;
-use folder_names::{APPS, STAMP, TEMPLATE, USERS};
 use rule_templates::Template;
 use std::alloc::{AllocError, Global};
 

@@ -14,7 +14,9 @@ ghost use Rattle.set_text.specs.Reading.{read_of};
 ghost use Rattle.set_text.specs.Registry.{last_uid, users_text};
 ghost use Rattle.set_text.specs.Stamp.{stamp_text};
 
-use crate::file_names::{bucket_file, known_name, load_file};
+use crate::file_names::{
+    APPS, BUCKETS, STAMP, TEMPLATE, USERS, bucket_file, known_name, load_file,
+};
 use crate::headings::buckets_text;
 use crate::installs::apps_text;
 use crate::load_files::{package_text, packages_of};
@@ -25,7 +27,6 @@ use app_registry::Ident;
 use bucket_store::Bucket;
 use desk_ports::{Bytes, FileName, FileSet, SetFile};
 use desk_state::Desk;
-use folder_names::{APPS, BUCKETS, STAMP, TEMPLATE, USERS};
 use std::alloc::{AllocError, Global};
 
 /// The files of a policy state, each in its one spelling. They read back as this state.
