@@ -21,6 +21,5 @@ pub mod ReadingValues
 pub mod Refusing
 pub mod RoundTrips
 pub mod Stamping
-pub mod Staying
 pub mod TextLines
 pub mod round

@@ -7,4 +7,3 @@ pub mod Rights
 pub mod Sorts
 pub mod Stages
 pub mod Standing
-pub mod Stays

@@ -100,13 +100,6 @@ pub fn known_name(alloc: Global, bytes: &[u8]) -> Result<FileName, AllocError>
     }
 }
 
-/// The name of the file of the commit number.
-pub fn stamp_name(alloc: Global) -> Result<FileName, AllocError>
-    ensures { IfOk result (λ name. name ≡ word.stamp) }
-{
-    known_name(alloc, STAMP)
-}
-
 /// The names of the files that every set has, in order.
 pub fn fixed_files(alloc: Global) -> Result<Vec<FileName>, AllocError>
     ensures { IfOk result (λ names. names.items ≡ word.fixed_files) }

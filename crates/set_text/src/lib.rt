@@ -13,7 +13,6 @@ mod laws;
 mod layouts;
 mod lines;
 mod load_files;
-mod next_files;
 mod numbers;
 mod policies;
 mod reading;
@@ -22,17 +21,14 @@ mod registries;
 mod results;
 mod sets;
 mod stamps;
-mod stays;
 mod templates;
 mod users;
 mod writing;
 
-pub use file_names::stamp_name;
 pub use laws::{
     faults_are_of_no_state, files_read_back, one_set_for_each_state, one_state_for_each_set,
     what_is_read_is_a_state,
 };
-pub use next_files::write_next;
 pub use reading::read;
 pub use refusals::TextRefusal;
 pub use writing::{write, write_loads};

@@ -186,15 +186,13 @@ fn has_kind(before: &[Install], install: &Install) -> bool
     }
 }
 
-/// Whether both packages are hybrid, or neither is.
-pub fn same_kind(hybrid: bool, other: bool) -> bool
+fn same_kind(hybrid: bool, other: bool) -> bool
     ensures { result ≡ same_kind hybrid other }
 {
     hybrid == other
 }
 
-/// Whether both have one author, or neither has one.
-pub fn same_author(author: &Option<Ident>, other: &Option<Ident>) -> bool
+fn same_author(author: &Option<Ident>, other: &Option<Ident>) -> bool
     ensures { result ≡ same_author author.now other.now }
 {
     match (author, other) {

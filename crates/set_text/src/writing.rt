@@ -9,9 +9,9 @@ ghost use Rattle.rule_templates.specs.Template.{template_text};
 ghost use Rattle.set_text.specs.Buckets.{buckets_text};
 ghost use Rattle.set_text.specs.FileNames as name;
 ghost use Rattle.set_text.specs.Files as word;
-ghost use Rattle.set_text.specs.IsSpelt.{IsHeading, IsPolicy, IsSpelt};
+ghost use Rattle.set_text.specs.IsSpelt.{IsHeading, IsPolicy, IsInstall, IsSpelt};
 ghost use Rattle.set_text.specs.Reading.{read_of};
-ghost use Rattle.set_text.specs.Registry.{last_uid, users_text};
+ghost use Rattle.set_text.specs.Registry.{last_uid, users_text, apps_text};
 ghost use Rattle.set_text.specs.Stamp.{stamp_text};
 
 use crate::file_names::{
@@ -55,8 +55,7 @@ fn all_files(alloc: Global, desk: &Desk) -> Result<Vec<SetFile>, AllocError>
 {
     let mut files = Vec::new(alloc);
     push_bucket_files(alloc, desk, &mut files)?;
-    let apps = apps_text(alloc, desk.registry().installs())?;
-    push_lists(alloc, desk, apps, &mut files)?;
+    push_lists(alloc, desk, &mut files)?;
     push_load_files(alloc, desk, &mut files)?;
     push_last(alloc, desk, &mut files)?;
     Ok(files)
@@ -75,8 +74,7 @@ fn push(
     push_file(known_name(alloc, name)?, text, files)
 }
 
-/// Puts a file behind these.
-pub fn push_file(name: FileName, text: Vec<u8>, files: &mut Vec<SetFile>) -> Result<(), AllocError>
+fn push_file(name: FileName, text: Vec<u8>, files: &mut Vec<SetFile>) -> Result<(), AllocError>
     ensures { OnOk result (files.new.items ≡ files.old.items ++ word.file name text.items ∷ []) }
 {
     files.push(SetFile {
@@ -109,12 +107,7 @@ fn push_buckets(
     Ok(())
 }
 
-/// Puts the file of a bucket behind these.
-pub fn push_bucket(
-    alloc: Global,
-    bucket: &Bucket,
-    files: &mut Vec<SetFile>,
-) -> Result<(), AllocError>
+fn push_bucket(alloc: Global, bucket: &Bucket, files: &mut Vec<SetFile>) -> Result<(), AllocError>
     ensures files { OnOk result (files.new.items ≡ files.old.items ++ word.file_of bucket.now ∷ []) }
     ensures spelt { OnOk result (AllByRecursion IsPolicy bucket.now.policies) }
 {
@@ -122,31 +115,24 @@ pub fn push_bucket(
     push_file(bucket_file(alloc, bucket.name())?, text, files)
 }
 
-/// Puts `apps`, with this text, and `buckets` behind these.
-pub fn push_lists(
-    alloc: Global,
-    desk: &Desk,
-    apps: Vec<u8>,
-    files: &mut Vec<SetFile>,
-) -> Result<(), AllocError>
+// Puts `apps` and `buckets` behind these.
+fn push_lists(alloc: Global, desk: &Desk, files: &mut Vec<SetFile>) -> Result<(), AllocError>
     ensures files { OnOk result (files.new.items ≡ files.old.items
-        ++ (word.file name.apps apps.items
+        ++ (word.file name.apps (apps_text desk.now.registry.installs)
         ∷ word.file name.buckets (buckets_text desk.now.database.buckets) ∷ [])) }
     ensures desk { OnOk result (IsDesk desk.now) }
+    ensures installs { OnOk result (AllByRecursion IsInstall desk.now.registry.installs) }
     ensures headings { OnOk result (AllByRecursion IsHeading desk.now.database.buckets) }
 {
+    let apps = apps_text(alloc, desk.registry().installs())?;
     push(alloc, APPS, apps, files)?;
     let buckets = buckets_text(alloc, desk.database().buckets())?;
     push(alloc, BUCKETS, buckets, files)?;
     Ok(())
 }
 
-/// Puts the load file of each package behind these.
-pub fn push_load_files(
-    alloc: Global,
-    desk: &Desk,
-    files: &mut Vec<SetFile>,
-) -> Result<(), AllocError>
+// Puts the load file of each package behind these.
+fn push_load_files(alloc: Global, desk: &Desk, files: &mut Vec<SetFile>) -> Result<(), AllocError>
     ensures { OnOk result (files.new.items ≡ files.old.items ++ word.load_files desk.now) }
 {
     let packages = packages_of(alloc, desk.registry().installs())?;
@@ -169,8 +155,7 @@ fn push_loads(
     Ok(())
 }
 
-/// Puts the load file of a package, which is installed, behind these.
-pub fn push_load(
+fn push_load(
     alloc: Global,
     desk: &Desk,
     package: &Ident,
@@ -183,8 +168,8 @@ pub fn push_load(
     push_file(load_file(alloc, package)?, text, files)
 }
 
-/// Puts `stamp`, `template` and `users` behind these.
-pub fn push_last(alloc: Global, desk: &Desk, files: &mut Vec<SetFile>) -> Result<(), AllocError>
+// Puts `stamp`, `template` and `users` behind these.
+fn push_last(alloc: Global, desk: &Desk, files: &mut Vec<SetFile>) -> Result<(), AllocError>
     ensures files { OnOk result (files.new.items ≡ files.old.items
         ++ (word.file name.stamp (stamp_text desk.now.commit)
         ∷ word.file name.template (template_text desk.now.template)

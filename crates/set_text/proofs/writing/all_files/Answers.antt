@@ -24,5 +24,5 @@ returns-clause-spelt c = record {
   buckets = c.in_ok-push_lists.ensures.headings;
   policies = c.in_ok-push_bucket_files.ensures.spelt;
   users = c.in_ok-push_last.ensures.users;
-  installs = search rules;
+  installs = c.in_ok-push_lists.ensures.installs;
 }

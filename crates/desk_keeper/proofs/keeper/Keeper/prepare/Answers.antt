@@ -11,8 +11,8 @@ prepare-requires-clause-decided g c = (and_parts c.args.self.now.read c.args.sel
 
 pub prepare-requires-clause-listable : goal.prepare-requires-clause-listable
 prepare-requires-clause-listable g c =
-    AllPass-from_list_all is_listable (names_of c.in-Ok-files_of.set)
-    (set-listable c.in-Ok-files_of.set c.in-Ok.applied.desk c.in-Ok-files_of.ensures.again)
+    AllPass-from_list_all is_listable (names_of c.in-Ok-write.set)
+    (set-listable c.in-Ok-write.set c.in-Ok.applied.desk c.in-Ok-write.ensures.again)
 
 pub returns-in-Err-prepare-clause-refused : goal.returns-in-Err-prepare-clause-refused
 returns-in-Err-prepare-clause-refused g c =
