@@ -229,8 +229,8 @@ impl<R: HostNet + AllocGlobal + Clock + Copy + Drop> Stay<R> {
         Ok(())
     }
 
-    /// Sends all bytes, or fails: as `steps::send`, and where the peer takes them too slowly. The clock is read only for a
-    /// long piece, and where the machine does not take a short one at once.
+    /// Sends all bytes, or fails: as `steps::send`, and where the peer takes them too slowly. The clock is read only for
+    /// a long piece, and where the machine does not take a short one at once.
     #[tactic(auto, using(crate::proofs::Appending::appended_rest))]
     pub fn send<W: Write>(&mut self, stream: &mut W, from: &[u8]) -> Result<(), Fault>
         ensures { OnOk result (Appended (W.contents stream.old) from.now (W.contents stream.new)) }
