@@ -27,10 +27,7 @@ pub const AGENT_WORKERS: u32 = 9;
 
 /// Whom a worker serves.
 #[derive(Drop)]
-pub(crate) enum Station<J: Naming, X: Drop>
-where
-    Events<J>: Naming,
-{
+pub(crate) enum Station<J: Naming, X: Drop> {
     /// Clients, in the place of this seat, with what is done beside.
     Clients(Seat<J>, X),
     Agents,
@@ -38,10 +35,7 @@ where
 
 /// A worker at its door, and how it ended, once it has.
 #[derive(Drop)]
-pub(crate) struct Worker<J: Naming, D: Drop, X: Drop>
-where
-    Events<J>: Naming,
-{
+pub(crate) struct Worker<J: Naming, D: Drop, X: Drop> {
     station: Station<J, X>,
     door: D,
     end: Option<WorkerEnd>,

@@ -1,8 +1,8 @@
 -- What is kept of an error of the machine.
 use Rattle.std.specs.Prelude.{◌≡◌, Some}
 use Rattle.std.specs.IoError.{error_kind, raw_os_error}
-use Rattle.std_io.specs.declared.io.error.Error.{Error}
-use Rattle.std_io.specs.declared.io.kind.ErrorKind.TheVariants.{BrokenPipe}
+use Rattle.std.specs.declared.io.Error.{Error}
+use Rattle.std.specs.declared.io.ErrorKind.TheVariants.{BrokenPipe}
 use Rattle.socket_net.specs.declared.faults.Fault.{Fault}
 use Rattle.socket_net.specs.declared.faults.Fault.TheVariants.{Number, Kind, Closed}
 

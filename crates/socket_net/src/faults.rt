@@ -3,8 +3,8 @@ ghost use Rattle.socket_net.specs.Faults.{Tells};
 
 use std::io::{Error, ErrorKind};
 
-/// Why a call of the machine failed. An `Error` has room for a text: 88 bytes, which each function that may hand one on clears
-/// and copies, also where nothing failed. So what the machine answers is taken apart right behind its call.
+/// Why a call of the machine failed. An `Error` has room for a text: 88 bytes, which each function that may hand one on
+/// clears and copies, also where nothing failed. So what the machine answers is taken apart right behind its call.
 #[derive(Clone, Copy)]
 pub enum Fault {
     /// The machine's number of the error.

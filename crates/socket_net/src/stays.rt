@@ -74,19 +74,55 @@ impl<R: HostNet + AllocGlobal + Clock + Copy + Drop> Stay<R> {
     pub fn receive(&mut self, stream: &mut UnixStream, into: &mut [u8]) -> Result<usize, Fault>
         ensures within { IfOk result (λ count. count ≤ length into.old) }
     {
-        let start = self.start()?;
-        if self.is_over_before(start)? {
+        if self.is_heard {
+            let count = self.receive_more(stream, into)?;
+            return Ok(count);
+        }
+        let start = self.read_clock()?;
+        if self.is_due(start) && self.has_line(start) {
             return let_go(stream, into);
         }
+        if let Some(count) = steps::receive_in_time(stream, into)? {
+            self.is_heard = true;
+            return Ok(count);
+        }
+        let count = self.go_on(stream, start, into)?;
+        Ok(count)
+    }
+
+    // The next bytes within a frame. That they come one by one is no reason to wait for more of them.
+    fn receive_more(&mut self, stream: &mut UnixStream, into: &mut [u8]) -> Result<usize, Fault>
+        ensures within { IfOk result (λ count. count ≤ length into.old) }
+    {
+        let start = self.start()?;
+        if self.is_over(start)? {
+            return let_go(stream, into);
+        }
+        if let Some(count) = steps::receive_in_time(stream, into)? {
+            return Ok(count);
+        }
+        let count = self.go_on(stream, start, into)?;
+        Ok(count)
+    }
+
+    // Goes on with a wait that began then, and that has found nothing yet.
+    fn go_on(
+        &mut self,
+        stream: &mut UnixStream,
+        start: Instant,
+        into: &mut [u8],
+    ) -> Result<usize, Fault>
+        ensures within { IfOk result (λ count. count ≤ length into.old) }
+    {
         for _ in 0..steps::MOST_TRIES {
-            if let Some(count) = steps::receive_in_time(stream, into)? {
-                self.is_heard = true;
-                return Ok(count);
-            }
             if self.is_over(start)? {
                 return let_go(stream, into);
             }
             self.set_tick(stream, start)?;
+            if let Some(count) = steps::receive_in_time(stream, into)? {
+                self.is_heard = true;
+                return Ok(count);
+            }
         }
         Err(Fault::Kind(ErrorKind::Interrupted))
     }
@@ -108,22 +144,15 @@ impl<R: HostNet + AllocGlobal + Clock + Copy + Drop> Stay<R> {
         Ok(true)
     }
 
-    // Whether a wait that is about to begin or to go on, and began then, is to end. Within a frame, since bytes that come one
-    // by one are no reason to wait for more of them; and between two, since a peer that asks without a pause holds its worker
-    // as one that is silent does.
-    fn is_over_before(&mut self, start: Instant) -> Result<bool, Fault> {
-        if self.is_heard {
-            return self.is_over(start);
-        }
-        if !self.is_due(start) {
-            return Ok(false);
-        }
-        self.served_since = start;
+    // Whether another waits for the worker. It is looked for that again in time.
+    fn has_line(&mut self, now: Instant) -> bool {
+        self.served_since = now;
         self.set_look();
-        Ok(self.commons.has_line(&self.rt))
+        self.commons.has_line(&self.rt)
     }
 
-    // Whether it is to be looked now whether another waits.
+    // Whether it is to be looked now whether another waits, between two frames: a peer that asks without a pause holds its
+    // worker as one that is silent does.
     fn is_due(&self, now: Instant) -> bool {
         match self.look_at {
             Some(at) => at <= now,
@@ -155,6 +184,7 @@ impl<R: HostNet + AllocGlobal + Clock + Copy + Drop> Stay<R> {
     }
 
     // What time it is.
+    #[inline(always)]
     fn read_clock(&self) -> Result<Instant, Fault> {
         match Instant::now(&self.rt) {
             Ok(now) => Ok(now),
@@ -229,8 +259,8 @@ impl<R: HostNet + AllocGlobal + Clock + Copy + Drop> Stay<R> {
         Ok(())
     }
 
-    /// Sends all bytes, or fails: as `steps::send`, and where the peer takes them too slowly. The clock is asked only of a long
-    /// piece, and where the machine does not take a short one at once.
+    /// Sends all bytes, or fails: as `steps::send`, and where the peer takes them too slowly. The clock is read only for
+    /// a long piece, and where the machine does not take a short one at once.
     #[tactic(auto, using(crate::proofs::Appending::appended_rest))]
     pub fn send<W: Write>(&mut self, stream: &mut W, from: &[u8]) -> Result<(), Fault>
         ensures { OnOk result (Appended (W.contents stream.old) from.now (W.contents stream.new)) }

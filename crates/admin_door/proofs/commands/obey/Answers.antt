@@ -6,6 +6,7 @@ use Rattle.admin_door.proofs.Adding.{settles-hung}
 use Rattle.admin_door.proofs.Answering.{either-way}
 use Rattle.admin_door.proofs.Stopping.{stands-behind}
 use Rattle.admin_door.proofs.Damage.{ok-way, commits-undamaged, unsettled-damaged}
+use Rattle.admin_door.proofs.Hanging.{hangs_then}
 use Rattle.admin_door.proofs.commands.obey.Goals as goal
 
 pub commit-requires-clause-hung : goal.commit-requires-clause-hung
@@ -66,3 +67,8 @@ returns-in-Err-clause-damaged g c =
     ok-way c.tell_unsettled.result _ _ _
     (λ replies told before state. unsettled-damaged c.args.keeper.now.desk (g.D.Disk.state (disk_of c.settle.new.keeper)) c.in-Err.reason
     replies.items told (c.in-Err.ensures.damaged before state)) c.tell_unsettled.ensures
+
+pub returns-in-Ok-clause-hangs : goal.returns-in-Ok-clause-hangs
+returns-in-Ok-clause-hangs g c =
+    hangs_then c.args.publisher.now c.settle.new.publisher c.commit.new.publisher c.args.hangs.now c.settle.new.hangs
+    c.commit.new.hangs c.settle.ensures.hangs c.commit.ensures.hangs
