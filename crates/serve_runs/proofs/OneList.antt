@@ -153,5 +153,6 @@ all_above commit entered (one ∷ more) low (here, others) = (omega (arith, low,
 
 pub above_hung : (events : List Event) (entered commit : ℕ) (answered : List Answered) (is : IsEntered events entered answered)
     → HasHungTo is.front commit → AllByRecursion (λ (one : Answered). commit ≤ one.desk.commit) answered
-above_hung events entered commit answered is (to, low, i, at) =
-    let high = is.above i to at in all_above commit entered answered (omega (arith, low, high)) is.fresh
+above_hung events entered commit answered is (to, low, has) =
+    let high : to ≤ entered = is.above has.0 to has.1 in
+    let above : commit ≤ entered = omega (arith, low, high) in all_above commit entered answered above is.fresh
