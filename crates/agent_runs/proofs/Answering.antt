@@ -15,6 +15,7 @@ use Rattle.wire_fields.specs.declared.operations.Heard.TheVariants.{AgentReplies
 use Rattle.client_core.specs.declared.stages.Open.{Open}
 use Rattle.client_core.specs.declared.stages.AgentStage.{AgentStage}
 use Rattle.client_core.specs.declared.steps.Step.{Step}
+use Rattle.client_core.specs.declared.steps.Step.TheVariants as step
 use Rattle.run_endings.specs.declared.endings.Ending.{Ending}
 use Rattle.run_endings.specs.declared.endings.Ending.TheVariants.{Memory, Net}
 use Rattle.agent_runs.specs.LinkSeen.{LinkSeen}
@@ -47,6 +48,11 @@ module _ (sequence : ℕ) (message : Message) (s : AgentStage) (answer : Step) (
       let none : (Ok value ≡ Err Memory) × (after ≡ link) = subst (λ (a : Step). Sends a new.frame (Ok value) link after) is sends in
       let never : Ok value ≡ Err Memory = none.0 in
       cc
+
+-- the machine answered that no frame is there
+pub unsent : (answer : Step) (frame : List ℕ) (link : LinkSeen) → (answer ≡ step.Send → ⊥) → Sends answer frame (Err Memory) link link
+unsent step.Send frame link none = absurd (none refl)
+unsent answer frame link none = (refl, refl)
 
 -- ---- a message
 

@@ -21,7 +21,7 @@ use Rattle.agent_runs.specs.parts.Hearing.{IsPut, Came}
 use Rattle.agent_runs.specs.parts.Turns.{IsWhole, FailsToWrite, Answers, Follows, Talked}
 use Rattle.agent_runs.proofs.Carrying.{carries-answered, carries-heard}
 use Rattle.agent_runs.proofs.Places.{refused-question, place-goes_on, place-taken}
-use Rattle.agent_runs.proofs.Hearing.{framed}
+use Rattle.agent_runs.proofs.Making.{framed}
 use Rattle.agent_runs.proofs.Talking.{heard-one, behind-one, whole-still, whole-then, more_lines, more_sent, ends_here, ends_at, carried-on, made}
 
 no_answer : (allowed : Bool) (sequence : ℕ) (message : Message) → IsRefused message → answer_for allowed sequence message ≡ []

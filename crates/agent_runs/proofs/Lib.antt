@@ -1,6 +1,6 @@
 pub mod Carrying
 pub mod Places
-pub mod Hearing
+pub mod Making
 pub mod Answering
 pub mod Talking
 pub mod Following

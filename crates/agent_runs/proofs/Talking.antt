@@ -32,7 +32,7 @@ use Rattle.agent_runs.specs.parts.Hearing.{IsBehind, IsReady, IsListening, Came}
 use Rattle.agent_runs.specs.parts.Ends.{ending_of, ending_behind}
 use Rattle.agent_runs.specs.parts.Turns.{IsUnwritten, IsWhole, SendsFrame, Sends, IsBegun, Talked}
 use Rattle.agent_runs.proofs.Carrying.{carries-same, carries-heard}
-use Rattle.agent_runs.proofs.Hearing.{IsOver, Makes, makes, wanted_behind}
+use Rattle.agent_runs.proofs.Making.{IsOver, Makes, makes, wanted_behind}
 use Rattle.agent_runs.proofs.Answering.{sent, stage_sent}
 
 -- ---- what was heard

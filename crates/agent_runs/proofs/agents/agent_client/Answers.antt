@@ -1,7 +1,7 @@
 use Rattle.std.proofs.Common.{◌<◌, ℕ, [], sym, subst, arith, rules}
 use Rattle.run_endings.specs.Outside.{sink_seen}
 use Rattle.agent_runs.specs.LinkSeen.{link_seen}
-use Rattle.agent_runs.proofs.Hearing.{wants_some}
+use Rattle.agent_runs.proofs.Making.{wants_some}
 use Rattle.agent_runs.proofs.Talking.{begins, served-unsent, ready, goes-on, served-over, served-ended, served-lost}
 use Rattle.agent_runs.proofs.Following.{follows-on, follows-out}
 use Rattle.agent_runs.proofs.agents.agent_client.Goals as goal

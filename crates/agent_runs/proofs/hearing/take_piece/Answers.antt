@@ -1,5 +1,5 @@
 use Rattle.std.proofs.Common.{rules, length, take}
-use Rattle.agent_runs.proofs.Hearing.{came, only_these}
+use Rattle.agent_runs.proofs.Making.{came, only_these}
 use Rattle.agent_runs.proofs.hearing.take_piece.Goals as goal
 
 pub returns-in-Wait : goal.returns-in-Wait
