@@ -28,8 +28,8 @@ pub record BeginsWithRows (wanted : Wanted) (sequence : ℕ) (bytes behind : Lis
   pub heard : Hears Replies bytes rows behind
   pub are_rows : AreRows wanted sequence 0 rows
 
--- The bytes are a whole answer, and nothing is behind it: rows, where rows are wanted, and the last reply. These are the
--- replies.
+-- The bytes are a whole answer, and nothing is behind it: rows, where rows are wanted, and the last reply. These are
+-- the replies.
 pub record IsWhole (wanted : Wanted) (sequence : ℕ) (replies : List Message) (bytes : List ℕ) : Type 0 where
   pub rows : List Framed
   pub last : Framed
@@ -52,16 +52,18 @@ refusal_of (of_core.Sequence sent got) = BadReply (Sequence sent got)
 refusal_of (of_core.Operation operation) = BadReply (Operation operation)
 refusal_of (of_core.Memory error) = Memory error
 
--- The bytes are no answer, and go no further than what is wrong in them: behind rows they go on with what is no frame, or with a
--- reply that is wrong there.
+-- The bytes are no answer, and go no further than what is wrong in them: behind rows they go on with what is no frame,
+-- or with a reply that is wrong there.
 pub data IsBad (wanted : Wanted) (sequence : ℕ) (fault : ReplyFault) (bytes : List ℕ) : Type 0 where
-  no_frame : (refusal : WireRefusal) (behind : List ℕ) → fault ≡ Frame refusal → BeginsWithRows wanted sequence bytes behind
+  no_frame : (refusal : WireRefusal) (behind : List ℕ) → fault ≡ Frame refusal
+      → BeginsWithRows wanted sequence bytes behind
       → IsWrong Replies behind refusal → IsBad wanted sequence fault bytes
   no_answer : (rows : List Framed) (wrong : Framed) (found : Fault) → Hears Replies bytes (rows ++ wrong ∷ []) []
       → AreRows wanted sequence 0 rows → IsWrongReply wanted sequence (length rows) wrong found
       → refusal_of found ≡ BadReply fault → IsBad wanted sequence fault bytes
 
--- What the bytes are behind which a message has no answer. Where no memory was found for a reply, they do not pass its frame.
+-- What the bytes are behind which a message has no answer. Where no memory was found for a reply, they do not pass its
+-- frame.
 abbrev pub IsRefused : Wanted → ℕ → AdminRefusal → List ℕ → Type 0
 IsRefused wanted sequence Unavailable bytes =
     (behind : List ℕ) × BeginsWithRows wanted sequence bytes behind × IsOpen Replies behind

@@ -1,5 +1,6 @@
 -- An administrator's client, and what sending a message does.
-use Rattle.std.specs.Prelude.{◌≡◌, ◌⊎◌, ◌+◌, ◌%◌, ◌^◌, ◌≤◌, ℕ, if◌then◌else◌, List, [], length, Option, Some, None, is_some, Result, Ok, Err}
+use Rattle.std.specs.Prelude.{◌≡◌, ◌⊎◌, ◌+◌, ◌%◌, ◌^◌, ◌≤◌, ℕ, if◌then◌else◌, List, [], length, Option, Some, None}
+use Rattle.std.specs.Prelude.{is_some, Result, Ok, Err}
 use Rattle.std.specs.declared.alloc.AllocError.{AllocError}
 use Rattle.desk_ports.specs.Faults.{next_count}
 use Rattle.desk_ports.specs.PortFault.{count_after_refusal}
@@ -62,7 +63,8 @@ IsSaid sequence message (Ok replies) bytes = IsWhole (wanted_of message) sequenc
 IsSaid sequence message (Err refusal) bytes = IsRefused (wanted_of message) sequence refusal bytes
 
 -- The frame of the message went out once, and these bytes came; or nothing of it went out.
-pub record Exchanged (sequence : ℕ) (message : Message) (result : Result (List Message) AdminRefusal) (sent bytes : List ℕ) : Type 0 where
+pub record Exchanged (sequence : ℕ) (message : Message) (result : Result (List Message) AdminRefusal)
+    (sent bytes : List ℕ) : Type 0 where
   pub went : (sent ≡ frame_of sequence message) ⊎ ((sent ≡ []) × (result ≡ Err Unavailable))
   pub said : IsSaid sequence message result bytes
 
@@ -98,7 +100,8 @@ module _ {N L : Type 0} (link_faults : L → ℕ) (marks : L → LinkMarks) (tra
   Ends (Err refusal) dial link after left = (left ≡ None) × Refuses refusal link dial after
 
   -- the frame was to go out on a link
-  pub record Talks (message : Message) (result : Result (List Message) AdminRefusal) (old new : State N L) : Type 0 where
+  pub record Talks (message : Message) (result : Result (List Message) AdminRefusal)
+      (old new : State N L) : Type 0 where
     pub base : L
     pub link : L
     pub dial : N
@@ -122,7 +125,8 @@ module _ {N L : Type 0} (link_faults : L → ℕ) (marks : L → LinkMarks) (tra
     pub sequence : new.sequence ≡ old.sequence
 
   -- the frame would be too long: nothing was sent, and all stays
-  pub record IsRefusedLong (message : Message) (result : Result (List Message) AdminRefusal) (old new : State N L) : Type 0 where
+  pub record IsRefusedLong (message : Message) (result : Result (List Message) AdminRefusal)
+      (old new : State N L) : Type 0 where
     pub size : ℕ
     pub long : IsTooLong (with_sequence old.sequence message) (TooLongFor size)
     pub is : result ≡ Err (TooLong size)

@@ -30,7 +30,8 @@ impl<N: Dial> Model for AdminLink<N> {
     ghost view = { λ kept. record { link = kept.link; sequence = kept.machine.sequence } };
 
     // No message is under way, and nobody but the service can hang up the link.
-    ghost invariant = { λ kept. IsAtRest kept.link kept.machine × ForSome kept.link (λ link. (N.Link.marks link).ends ≡ 0) };
+    ghost invariant = { λ kept. IsAtRest kept.link kept.machine
+        × ForSome kept.link (λ link. (N.Link.marks link).ends ≡ 0) };
 }
 
 impl<N: Dial> AdminLink<N> {
@@ -46,9 +47,9 @@ impl<N: Dial> AdminLink<N> {
     }
 
     /// Sends a message, once, and gives what came back: the one reply, or the rows of a list and their end. Refuses
-    /// `TooLong` with the length where the frame would be longer than 1,048,576, and nothing is sent then; `Unavailable`
-    /// where the dial failed, or the link before the answer was whole; and `BadReply` where what came is no answer to the
-    /// message. After `Unavailable` nothing is known of whether a command was accepted. It may wait.
+    /// `TooLong` with the length where the frame would be longer than 1,048,576, and nothing is sent then;
+    /// `Unavailable` where the dial failed, or the link before the answer was whole; and `BadReply` where what came is
+    /// no answer to the message. After `Unavailable` nothing is known of whether a command was accepted. It may wait.
     pub fn send(&mut self, dial: &mut N, message: &Message) -> Result<Vec<Message>, AdminRefusal>
         ensures { Sends N.Link.faults N.Link.marks N.Link.traffic N.faults N.dials N.given_back message.now
             (listed (λ replies. replies.items) result) (with_dial dial.old self.old) (with_dial dial.new self.new) }

@@ -34,9 +34,9 @@ impl<N: Dial> AdminClient<N> {
     }
 
     /// Sends a message, once, and gives what came back: the one reply, or the rows of a list and their end. Refuses
-    /// `TooLong` with the length where the frame would be longer than 1,048,576, and nothing is sent then; `Unavailable`
-    /// where the dial failed, or the link before the answer was whole; and `BadReply` where what came is no answer to the
-    /// message. After `Unavailable` nothing is known of whether a command was accepted. It may wait.
+    /// `TooLong` with the length where the frame would be longer than 1,048,576, and nothing is sent then;
+    /// `Unavailable` where the dial failed, or the link before the answer was whole; and `BadReply` where what came is
+    /// no answer to the message. After `Unavailable` nothing is known of whether a command was accepted. It may wait.
     pub fn send(&mut self, message: &Message) -> Result<Vec<Message>, AdminRefusal>
         ensures { Sends N.Link.faults N.Link.marks N.Link.traffic N.faults N.dials N.given_back message.now
             (listed (λ replies. replies.items) result) self.old self.new }

@@ -1,8 +1,9 @@
-//! An administrator's client of the policy service: a command is sent once, and the caller hears exactly what came back.
+//! An administrator's client of the policy service: a command is sent once, and the caller hears exactly what came
+//! back.
 //!
-//! What is sent is never sent a second time: of a command whose reply was lost nobody knows whether it was accepted, and
-//! sending it again might do it twice. Which bytes are sent, and which bytes are an answer, the machine of `client_core`
-//! says; here are the calls on the link that it asks for.
+//! What is sent is never sent a second time: of a command whose reply was lost nobody knows whether it was accepted,
+//! and sending it again might do it twice. Which bytes are sent, and which bytes are an answer, the machine of
+//! `client_core` says; here are the calls on the link that it asks for.
 #![tactic(auto)]
 
 mod admin_links;

@@ -23,7 +23,8 @@ use wire_messages::Message;
 // How many bytes are received at once, at most.
 const MOST_PIECE: usize = 4096;
 
-/// Sends the frame of the message, once, and gives the replies, of which no byte past the last one is taken. It may wait.
+/// Sends the frame of the message, once, and gives the replies, of which no byte past the last one is taken. It may
+/// wait.
 pub(crate) fn talk<L: Link>(
     alloc: Global,
     machine: &mut AdminMachine,
@@ -31,7 +32,8 @@ pub(crate) fn talk<L: Link>(
 ) -> Result<Vec<Message>, AdminRefusal>
     requires { (message : message_type.Message) × (sequence : ℕ) × IsDue sequence message machine.old }
     ensures exchanged { (message : message_type.Message) (sequence : ℕ) → IsDue sequence message machine.old
-        → Exchanges sequence message (listed (λ replies. replies.items) result) (L.traffic link.old) (L.traffic link.new) }
+        → Exchanges sequence message (listed (λ replies. replies.items) result) (L.traffic link.old)
+            (L.traffic link.new) }
     ensures left { Leaves (IsTrouble (L.marks link.new) (L.faults link.new)) (listed (λ replies. replies.items) result)
         machine.old machine.new }
     ensures ends { (L.marks link.new).ends ≡ (L.marks link.old).ends }

@@ -18,6 +18,7 @@ ghost use Rattle.server_hall.specs.Tally.{after_stop};
 ghost use Rattle.wire_fields.specs.declared.operations.Heard.TheVariants.{AtAdmin};
 ghost use Rattle.door_frames.specs.declared.endings.Ended.TheVariants.{Memory};
 ghost use Rattle.admin_door.specs.Side.{side_of, decided_of};
+ghost use Rattle.admin_door.specs.Hanging.{HangsOn};
 ghost use Rattle.admin_door.specs.Settling.{IsHungFor, TellsDamage};
 ghost use Rattle.admin_door.specs.Answering.{Answers, Refuses, AnswersQuestion, Obeys, IsUnanswered, Commits};
 ghost use Rattle.admin_door.specs.Answering.{LacksMemory, AnswersUnsettled};
@@ -28,13 +29,13 @@ ghost use Rattle.admin_door.specs.parts.Showing.{Shows, IsUnshown};
 use crate::publishing::show;
 use crate::questions::{check_replies, list_replies, one};
 use crate::services::service_replies;
-use crate::settling::{Unsettled, settle};
+use crate::settling::settle;
 use crate::states::state_replies;
-use desk_keeper::{Keeper, PreparedCommit};
+use desk_keeper::{Keeper, KeeperRefusal, PreparedCommit};
 use desk_ports::Disk;
 use desk_state::{Command, Refusal};
 use door_frames::Ended;
-use live_desk::{Naming, Publisher};
+use live_desk::{Event, Events, Front, Naming, Publisher};
 use server_hall::Hall;
 use std::alloc::Global;
 use std::sync::Wait;
@@ -44,12 +45,13 @@ use wire_messages::{Message, command_of};
 /// done, once its state is durable and published and all older connections are hung up; by the first rule that it
 /// breaks; or by what the store met. A question is answered at the last state that is known to be kept, and `Stop`
 /// stops the hall. It may wait.
-pub fn answer_command<R: Wait, D: Disk, A: Hall, J: Naming>(
+pub fn answer_command<R: Wait, D: Disk, J: Naming, A: Hall<List = J>>(
     rt: &R,
     alloc: Global,
     keeper: &mut Keeper<'_, D>,
     publisher: &mut Publisher<J>,
     hall: &mut A,
+    hangs: &mut Front<Event, Events<J>>,
     message: &Message,
 ) -> Result<Vec<Message>, Ended>
     requires known { operation_of AtAdmin (number_of (operation message.now)) ≡ Some (operation message.now) }
@@ -65,7 +67,7 @@ pub fn answer_command<R: Wait, D: Disk, A: Hall, J: Naming>(
         (side_of D.faults keeper.old publisher.old (A.tally hall.old) (A.calls hall.old))
         (side_of D.faults keeper.new publisher.new (A.tally hall.new) (A.calls hall.new)) }
     ensures acknowledged { IfOk result (λ replies. Acknowledges message.now
-        (side_of D.faults keeper.new publisher.new (A.tally hall.new) (A.calls hall.new)) replies.items) }
+        (side_of D.faults keeper.new publisher.new (A.tally hall.new) (A.calls hall.new)) hangs.new replies.items) }
     ensures service { IfOk result (λ replies. TellsService message.now (A.told hall.old) replies.items) }
 
     // What a stop at any moment of the call may leave in the folder, and what the folder keeps behind the call.
@@ -81,22 +83,25 @@ pub fn answer_command<R: Wait, D: Disk, A: Hall, J: Naming>(
         (λ replies. IsSome (words.command_of message.now) → WhereTold (D.state (disk_of keeper.old)) (λ before.
         TellsDamage keeper.old.desk (D.state (disk_of keeper.new)) replies.items)) }
     ensures behind { last_commit 0 publisher.new ≤ keeper.new.desk.commit }
+    ensures hangs { HangsOn publisher.old publisher.new hangs.old hangs.new }
     ensures same_disk { IsSameDisk keeper.old keeper.new }
 {
     // proof: both outcomes are named, so that what follows of each is told at the end.
-    match answer(rt, alloc, keeper, publisher, hall, message) {
+    match answer(rt, alloc, keeper, publisher, hall, hangs, message) {
         Ok(replies) => Ok(replies),
         Err(ended) => Err(ended),
     }
 }
 
 // The same. What follows of it on what was published is told by its caller.
-fn answer<R: Wait, D: Disk, A: Hall, J: Naming>(
+#[tactic(auto, using(crate::proofs::Hanging::hangs_none))]
+fn answer<R: Wait, D: Disk, J: Naming, A: Hall<List = J>>(
     rt: &R,
     alloc: Global,
     keeper: &mut Keeper<'_, D>,
     publisher: &mut Publisher<J>,
     hall: &mut A,
+    hangs: &mut Front<Event, Events<J>>,
     message: &Message,
 ) -> Result<Vec<Message>, Ended>
     requires known { operation_of AtAdmin (number_of (operation message.now)) ≡ Some (operation message.now) }
@@ -121,10 +126,11 @@ fn answer<R: Wait, D: Disk, A: Hall, J: Naming>(
         (λ replies. IsSome (words.command_of message.now) → WhereTold (D.state (disk_of keeper.old)) (λ before.
         TellsDamage keeper.old.desk (D.state (disk_of keeper.new)) replies.items)) }
     ensures behind { last_commit 0 publisher.new ≤ keeper.new.desk.commit }
+    ensures hangs { HangsOn publisher.old publisher.new hangs.old hangs.new }
     ensures same_disk { IsSameDisk keeper.old keeper.new }
 {
     match command_of(message) {
-        Ok(Some(command)) => obey(rt, alloc, keeper, publisher, hall, &command),
+        Ok(Some(command)) => obey(rt, alloc, keeper, publisher, hall, hangs, &command),
         Ok(None) => answer_question(alloc, keeper, hall, message),
         Err(_) => Err(Ended::Memory),
     }
@@ -177,12 +183,14 @@ fn stop<A: Hall>(alloc: Global, commit: u64, hall: &mut A) -> Result<Vec<Message
 }
 
 // Settles what is left undone, and then does what the command says.
-fn obey<R: Wait, D: Disk, A: Hall, J: Naming>(
+#[tactic(auto, using(crate::proofs::Hanging::hangs_then))]
+fn obey<R: Wait, D: Disk, J: Naming, A: Hall<List = J>>(
     rt: &R,
     alloc: Global,
     keeper: &mut Keeper<'_, D>,
     publisher: &mut Publisher<J>,
     hall: &mut A,
+    hangs: &mut Front<Event, Events<J>>,
     command: &Command,
 ) -> Result<Vec<Message>, Ended>
     requires { last_commit 0 publisher.old ≤ keeper.old.desk.commit }
@@ -204,34 +212,37 @@ fn obey<R: Wait, D: Disk, A: Hall, J: Naming>(
     ensures damaged { IfOk result (λ replies. WhereTold (D.state (disk_of keeper.old)) (λ before.
         TellsDamage keeper.old.desk (D.state (disk_of keeper.new)) replies.items)) }
     ensures behind { last_commit 0 publisher.new ≤ keeper.new.desk.commit }
+    ensures hangs { HangsOn publisher.old publisher.new hangs.old hangs.new }
     ensures same_disk { IsSameDisk keeper.old keeper.new }
 {
     let shown = publisher.commit();
-    match settle(rt, keeper, publisher, hall) {
-        Ok(()) => commit(rt, alloc, keeper, publisher, hall, command, shown),
+    match settle(rt, keeper, publisher, hall, hangs) {
+        Ok(()) => commit(rt, alloc, keeper, publisher, hall, hangs, command, shown),
         Err(reason) => tell_unsettled(alloc, reason),
     }
 }
 
 // What a command is answered that could not be settled.
-fn tell_unsettled(alloc: Global, reason: Unsettled) -> Result<Vec<Message>, Ended>
+fn tell_unsettled(alloc: Global, reason: KeeperRefusal) -> Result<Vec<Message>, Ended>
     ensures { MatchResult result (λ replies. AnswersUnsettled reason replies.items) (λ ended. ended ≡ Memory) }
 {
     match reason {
-        Unsettled::StoreFault => one(alloc, Message::StoreFault),
-        Unsettled::StoreDamaged { file, line } => one(alloc, Message::StoreDamaged { file, line }),
-        Unsettled::Memory => Err(Ended::Memory),
+        KeeperRefusal::StoreFault => one(alloc, Message::StoreFault),
+        KeeperRefusal::Damaged { file, line } => one(alloc, Message::StoreDamaged { file, line }),
+        KeeperRefusal::Memory(_) => Err(Ended::Memory),
     }
 }
 
 // Does what the command says, from a state that is kept and shown to all: where one was published behind the commit
 // that is given, all older connections are hung up.
-fn commit<R: Wait, D: Disk, A: Hall, J: Naming>(
+#[tactic(auto, using(crate::proofs::Hanging::hangs_none))]
+fn commit<R: Wait, D: Disk, J: Naming, A: Hall<List = J>>(
     rt: &R,
     alloc: Global,
     keeper: &mut Keeper<'_, D>,
     publisher: &mut Publisher<J>,
     hall: &mut A,
+    hangs: &mut Front<Event, Events<J>>,
     command: &Command,
     shown: u64,
 ) -> Result<Vec<Message>, Ended>
@@ -254,10 +265,11 @@ fn commit<R: Wait, D: Disk, A: Hall, J: Naming>(
         → decided_of keeper.new ≡ true → EndsKept keeper.new.desk (held_of keeper.new) (D.state (disk_of keeper.new))) }
     ensures tells { StillTells (D.state (disk_of keeper.old)) (D.state (disk_of keeper.new)) }
     ensures behind { last_commit 0 publisher.new ≤ keeper.new.desk.commit }
+    ensures hangs { HangsOn publisher.old publisher.new hangs.old hangs.new }
     ensures same_disk { IsSameDisk keeper.old keeper.new }
 {
     match keeper.prepare(command) {
-        Ok(prepared) => commit_prepared(rt, alloc, keeper, publisher, hall, prepared),
+        Ok(prepared) => commit_prepared(rt, alloc, keeper, publisher, hall, hangs, prepared),
         Err(refusal) => tell_refusal(alloc, refusal),
     }
 }
@@ -275,12 +287,14 @@ fn tell_refusal(alloc: Global, refusal: Refusal) -> Result<Vec<Message>, Ended>
 
 // Commits what was prepared, and then shows it to all. All memory but that of the publication is taken before the
 // commit.
-fn commit_prepared<R: Wait, D: Disk, A: Hall, J: Naming>(
+#[tactic(auto, using(crate::proofs::Hanging::hangs_none, crate::proofs::Hanging::hangs_same, crate::proofs::Hanging::hangs_from))]
+fn commit_prepared<R: Wait, D: Disk, J: Naming, A: Hall<List = J>>(
     rt: &R,
     alloc: Global,
     keeper: &mut Keeper<'_, D>,
     publisher: &mut Publisher<J>,
     hall: &mut A,
+    hangs: &mut Front<Event, Events<J>>,
     prepared: PreparedCommit,
 ) -> Result<Vec<Message>, Ended>
     requires decided { decided_of keeper.old ≡ true }
@@ -303,6 +317,7 @@ fn commit_prepared<R: Wait, D: Disk, A: Hall, J: Naming>(
         → decided_of keeper.new ≡ true → EndsKept keeper.new.desk (held_of keeper.new) (D.state (disk_of keeper.new))) }
     ensures tells { StillTells (D.state (disk_of keeper.old)) (D.state (disk_of keeper.new)) }
     ensures behind { last_commit 0 publisher.new ≤ keeper.new.desk.commit }
+    ensures hangs { HangsOn publisher.old publisher.new hangs.old hangs.new }
     ensures same_disk { IsSameDisk keeper.old keeper.new }
 {
     let commit = prepared.desk().commit();
@@ -319,7 +334,7 @@ fn commit_prepared<R: Wait, D: Disk, A: Hall, J: Naming>(
     let Ok(_) = keeper.commit(prepared) else {
         return Ok(fault);
     };
-    match show(rt, keeper, publisher, hall, ready) {
+    match show(rt, keeper, publisher, hall, hangs, ready) {
         Ok(()) => Ok(done),
         Err(_) => Err(Ended::Memory),
     }

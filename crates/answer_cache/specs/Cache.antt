@@ -1,5 +1,6 @@
 -- What a client keeps of the answers that it was given.
-use Rattle.std.specs.Prelude.{◌≡◌, ℕ, Bool, true, false, ◌-◌, ◌&&◌, nat_le, if◌then◌else◌, List, [], ◌∷◌, ◌++◌, take, Option, Some, None}
+use Rattle.std.specs.Prelude.{◌≡◌, ℕ, Bool, true, false, ◌-◌, ◌&&◌, nat_le, if◌then◌else◌, List, [], ◌∷◌, ◌++◌, take}
+use Rattle.std.specs.Prelude.{Option, Some, None}
 use Rattle.std.specs.Map.{lookup, remove_entry}
 use Rattle.lru.specs.LruCache.{promoted}
 use Rattle.cynara_keys.specs.Text.{same_text}
@@ -30,7 +31,8 @@ abbrev pub key_text : Asked → List ℕ
 key_text asked =
     asked.session ++ (32 ∷ (asked.question.client ++ (32 ∷ (asked.question.user ++ (32 ∷ asked.question.privilege)))))
 
--- The entries, the most recently used first; how many there may be; and the greatest commit that the client was told of.
+-- The entries, the most recently used first; how many there may be; and the greatest commit that the client was told
+-- of.
 pub record Cache : Type 0 where
   pub entries : List (Asked × Verdict)
   pub most : ℕ
@@ -63,11 +65,12 @@ first_verdict (entry ∷ entries) = Some entry.1
 abbrev pub newest : Cache → Option Verdict
 newest cache = first_verdict cache.entries
 
--- What is kept under the text of four names is found and used; or nothing is kept under it that is not older than what the
--- client was told.
+-- What is kept under the text of four names is found and used; or nothing is kept under it that is not older than what
+-- the client was told.
 abbrev pub Recalls : Bool → List ℕ → Cache → Cache → Type 0
 Recalls true text old new =
-    (asked : Asked) × IsOfNames asked × (text ≡ key_text asked) × ((verdict : Verdict) × (answer_in asked old ≡ Some verdict))
+    (asked : Asked) × IsOfNames asked × (text ≡ key_text asked)
+        × ((verdict : Verdict) × (answer_in asked old ≡ Some verdict))
     × (new ≡ used asked old)
 Recalls false text old new =
     (new ≡ old) × ((asked : Asked) → IsOfNames asked → text ≡ key_text asked → answer_in asked old ≡ None)

@@ -1,7 +1,8 @@
 ghost use Rattle.std.specs.Prelude.{◌≡◌, ◌<◌, ◌≤◌, [], max, length, is_some, IfOk, IfNone, OnSome};
 ghost use Rattle.std.specs.Option.{option_copied};
 ghost use Rattle.std.specs.Bool.{OnTrue, OnFalse};
-ghost use Rattle.answer_cache.specs.Cache.{empty_cache, asked_in, answer_in, with_entries, used, kept, without, newest, Recalls};
+ghost use Rattle.answer_cache.specs.Cache.{empty_cache, asked_in, answer_in, with_entries, used, kept, without, newest};
+ghost use Rattle.answer_cache.specs.Cache.{Recalls};
 ghost use Rattle.answer_cache.specs.Limits.{most_entries};
 
 use crate::hashing::TextHasher;
@@ -16,7 +17,8 @@ use std::num::NonZeroUsize;
 use wire_messages::PackedVerdict;
 
 /// Verdicts with the sessions and questions that they answer, the most recently used first, and the greatest commit
-/// that the client was told of. An entry takes some 200 bytes, those of its four names and those of its verdict's texts.
+/// that the client was told of. An entry takes some 200 bytes, those of its four names and those of its verdict's
+/// texts.
 #[derive(Drop)]
 pub struct AnswerCache {
     alloc: Global,
@@ -79,9 +81,9 @@ impl AnswerCache {
         self.held.len()
     }
 
-    /// Whether there is an entry under the text, which is a session, a client, a user and a privilege with a space between
-    /// each two, that is not older than what the client was told. It is then the most recently used. One look-up, and no
-    /// memory; a text that is not made so has no entry.
+    /// Whether there is an entry under the text, which is a session, a client, a user and a privilege with a space
+    /// between each two, that is not older than what the client was told. It is then the most recently used. One
+    /// look-up, and no memory; a text that is not made so has no entry.
     pub fn recall(&mut self, text: &[u8]) -> bool
         ensures { Recalls result text.now self.old self.new }
     {
@@ -104,8 +106,8 @@ impl AnswerCache {
         self.held.promote(text)
     }
 
-    /// Whether there is an entry for the question in this session that is not older than what the client was told. It is
-    /// then the most recently used, and `newest` gives its verdict. Takes no memory.
+    /// Whether there is an entry for the question in this session that is not older than what the client was told. It
+    /// is then the most recently used, and `newest` gives its verdict. Takes no memory.
     pub fn has_answer(&mut self, session: &Name, question: &Question) -> bool
         ensures answer { result ≡ is_some (answer_in (asked_in session.now question.now) self.old) }
         ensures first { OnTrue result (self.new ≡ used (asked_in session.now question.now) self.old) }
@@ -115,7 +117,8 @@ impl AnswerCache {
         self.recall(key.as_slice())
     }
 
-    /// The verdict of the entry for the question in this session, by value, exactly where `has_answer` says that there is one.
+    /// The verdict of the entry for the question in this session, by value, exactly where `has_answer` says that there
+    /// is one.
     pub fn answer(&mut self, session: &Name, question: &Question) -> Option<Verdict>
         ensures answer { result ≡ answer_in (asked_in session.now question.now) self.old }
         ensures first { OnSome result (self.new ≡ used (asked_in session.now question.now) self.old) }
@@ -143,9 +146,9 @@ impl AnswerCache {
         Some(verdict)
     }
 
-    /// Keeps a copy of the verdict as that of the question in this session, in place of an older one, as the most recently
-    /// used; the least recently used goes where there would be too many. Says whether it was kept: want of memory leaves
-    /// the cache without an entry for the question in this session.
+    /// Keeps a copy of the verdict as that of the question in this session, in place of an older one, as the most
+    /// recently used; the least recently used goes where there would be too many. Says whether it was kept: want of
+    /// memory leaves the cache without an entry for the question in this session.
     pub fn keep(&mut self, session: &Name, question: &Question, verdict: &PackedVerdict) -> bool
         ensures kept { OnTrue result
             (self.new ≡ kept (asked_in session.now question.now) verdict.now self.old) }

@@ -4,8 +4,8 @@ ghost use Rattle.answer_cache.specs.parts.Hashing as hashing;
 
 use std::hash::Hasher;
 
-/// A hasher for texts. A text comes byte by byte, and a byte costs a rotation: std's hasher multiplies for each, which takes
-/// longer than all else of a look-up. Of a number that comes with several bytes the lowest counts.
+/// A hasher for texts. A text comes byte by byte, and a byte costs a rotation: std's hasher multiplies for each, which
+/// takes longer than all else of a look-up. Of a number that comes with several bytes the lowest counts.
 #[derive(Clone, Copy)]
 pub struct TextHasher {
     state: u64,

@@ -9,10 +9,10 @@ ghost use Rattle.answer_cache.specs.Cache.{asked_in, key_text};
 use arrayvec::ArrayVec;
 use cynara_keys::{Name, Question};
 
-// Four names of 255 bytes, and a space behind each but the last.
+/// Four names of 255 bytes, and a space behind each but the last.
 pub const MOST_KEY_BYTES: usize = 1023;
 
-// The key of the question in the session. Takes no memory.
+/// The key of the question in the session: the four names, with a space between each two. Takes no memory.
 pub fn key_of(session: &Name, question: &Question) -> ArrayVec<u8, MOST_KEY_BYTES>
     ensures text { result.items ≡ key_text (asked_in session.now question.now) }
     ensures session { name_fault session.now ≡ None }

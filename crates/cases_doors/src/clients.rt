@@ -9,7 +9,7 @@ use cases_words::Failure;
 use client_door::client_loop;
 use desk_state::Desk;
 use link_ports::{MemEnd, OpenGate};
-use live_desk::{Naming, Opened, Seat, start};
+use live_desk::{Event, Naming, Opened, Seat, start};
 use live_roll::Roll;
 use server_hall::{HallAnswer, ListHall};
 use std::alloc::Global;
@@ -36,22 +36,32 @@ fn over_desk<R: Wait>(
 ) -> Result<String, Failure> {
     let answers = answers_of(alloc, answers)?;
     let mut link = CutLink::of(alloc, link, bytes)?;
-    conversation_named::<Brand, R>(rt, alloc, Opened::new(), desk, answers, &mut link)
+    conversation_named::<Brand, R>(
+        rt,
+        alloc,
+        Opened::new(),
+        Opened::new(),
+        desk,
+        answers,
+        &mut link,
+    )
 }
 
-// The same, over a list of states that the caller picks. The prover offers no pick for a function that takes a `&str`,
+// The same, over lists that the caller picks, of states and of events. The prover offers no pick for a function that takes a `&str`,
 // so this one takes what was read of the words.
 fn conversation_named<J: Naming, R: Wait>(
     rt: &R,
     alloc: Global,
     opened: Opened<Desk>,
+    happened: Opened<Event>,
     desk: &Desk,
     answers: Vec<HallAnswer>,
     link: &mut CutLink,
 ) -> Result<String, Failure>
-    requires { book_of opened ≡ J.book }
+    requires list { book_of opened ≡ J.book }
+    requires log { book_of happened ≡ J.events }
 {
-    let (publisher, seats, roll) = start::<J, _, R>(rt, alloc, opened, desk, 1)?;
+    let (publisher, seats, roll) = start::<J, _, R>(rt, alloc, opened, happened, desk, 1)?;
     let told = with_seats(rt, alloc, seats, roll, answers, link);
     publisher.end(rt);
     told
@@ -61,7 +71,7 @@ fn with_seats<R: Wait, J: Naming>(
     rt: &R,
     alloc: Global,
     mut seats: Vec<Seat<J>>,
-    roll: Roll<MemEnd>,
+    roll: Roll<MemEnd, J>,
     answers: Vec<HallAnswer>,
     link: &mut CutLink,
 ) -> Result<String, Failure> {
@@ -75,11 +85,11 @@ fn with_seat<R: Wait, J: Naming>(
     rt: &R,
     alloc: Global,
     seat: &mut Seat<J>,
-    roll: Roll<MemEnd>,
+    roll: Roll<MemEnd, J>,
     answers: Vec<HallAnswer>,
     link: &mut CutLink,
 ) -> Result<String, Failure> {
-    let mut hall = ListHall::new(alloc, answers, roll)?;
+    let mut hall = ListHall::new(rt, alloc, answers, roll)?;
     let ended = client_loop(rt, alloc, seat, &mut hall, link, &OpenGate);
     shown(alloc, &ended, link.sent(), &hall)
 }

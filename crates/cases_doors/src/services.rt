@@ -10,7 +10,7 @@ use desk_keeper::Keeper;
 use desk_ports::Disk;
 use desk_state::Desk;
 use link_ports::{Link, MemEnd};
-use live_desk::{Naming, Opened, Publisher, Roll, Seat, start};
+use live_desk::{Event, Events, Front, Naming, Opened, Publisher, Roll, Seat, start};
 use server_hall::{Hall, ListHall};
 use std::alloc::Global;
 use std::marker::Brand;
@@ -25,22 +25,39 @@ pub fn with_keeper<R: Wait, D: Disk>(
     text: &mut String,
 ) -> Result<bool, Failure> {
     let connections = String::from_str(alloc, connections)?;
-    with_keeper_named::<Brand, R, D>(rt, alloc, Opened::new(), keeper, &connections, text)
+    with_keeper_named::<Brand, R, D>(
+        rt,
+        alloc,
+        Opened::new(),
+        Opened::new(),
+        keeper,
+        &connections,
+        text,
+    )
 }
 
-// The same, over a list of states that the caller picks. The prover offers no pick for a function that takes a `&str`:
+// The same, over lists that the caller picks, of states and of events. The prover offers no pick for a function that takes a `&str`:
 // the connections are lent as a `String`.
 fn with_keeper_named<J: Naming, R: Wait, D: Disk>(
     rt: &R,
     alloc: Global,
     opened: Opened<Desk>,
+    happened: Opened<Event>,
     keeper: &mut Keeper<'_, D>,
     connections: &String,
     text: &mut String,
 ) -> Result<bool, Failure>
-    requires { book_of opened ≡ J.book }
+    requires list { book_of opened ≡ J.book }
+    requires log { book_of happened ≡ J.events }
 {
-    let (mut publisher, seats, roll) = start::<J, _, R>(rt, alloc, opened, keeper.desk(), 1)?;
+    let (mut publisher, seats, roll) = start::<J, _, R>(
+        rt,
+        alloc,
+        opened,
+        happened,
+        keeper.desk(),
+        1,
+    )?;
     let told = with_seats(
         rt,
         alloc,
@@ -64,7 +81,7 @@ fn with_seats<R: Wait, D: Disk, J: Naming>(
     keeper: &mut Keeper<'_, D>,
     publisher: &mut Publisher<J>,
     mut seats: Vec<Seat<J>>,
-    roll: Roll<MemEnd>,
+    roll: Roll<MemEnd, J>,
     connections: &str,
     text: &mut String,
 ) -> Result<(), Failure> {
@@ -89,17 +106,19 @@ fn with_seat<R: Wait, D: Disk, J: Naming>(
     keeper: &mut Keeper<'_, D>,
     publisher: &mut Publisher<J>,
     seat: &mut Seat<J>,
-    roll: Roll<MemEnd>,
+    roll: Roll<MemEnd, J>,
     connections: &str,
     text: &mut String,
 ) -> Result<(), Failure> {
-    match ListHall::new(alloc, Vec::new(alloc), roll) {
+    let mut hangs = roll.known().again();
+    match ListHall::new(rt, alloc, Vec::new(alloc), roll) {
         Ok(mut hall) => with_hall(
             rt,
             alloc,
             keeper,
             publisher,
             &mut hall,
+            &mut hangs,
             seat,
             connections,
             text,
@@ -108,29 +127,31 @@ fn with_seat<R: Wait, D: Disk, J: Naming>(
     }
 }
 
-fn with_hall<R: Wait, D: Disk, J: Naming>(
+fn with_hall<R: Wait, W: Wait + Drop, D: Disk, J: Naming>(
     rt: &R,
     alloc: Global,
     keeper: &mut Keeper<'_, D>,
     publisher: &mut Publisher<J>,
-    hall: &mut ListHall<MemEnd>,
+    hall: &mut ListHall<W, MemEnd, J>,
+    hangs: &mut Front<Event, Events<J>>,
     seat: &mut Seat<J>,
     connections: &str,
     text: &mut String,
 ) -> Result<(), Failure> {
     for words in connections.split(';') {
-        with_client(rt, alloc, keeper, publisher, hall, seat, words, text)?;
+        with_client(rt, alloc, keeper, publisher, hall, hangs, seat, words, text)?;
     }
     Ok(())
 }
 
 // A client enters, and then the connection is served.
-fn with_client<R: Wait, D: Disk, J: Naming>(
+fn with_client<R: Wait, W: Wait + Drop, D: Disk, J: Naming>(
     rt: &R,
     alloc: Global,
     keeper: &mut Keeper<'_, D>,
     publisher: &mut Publisher<J>,
-    hall: &mut ListHall<MemEnd>,
+    hall: &mut ListHall<W, MemEnd, J>,
+    hangs: &mut Front<Event, Events<J>>,
     seat: &mut Seat<J>,
     words: &str,
     text: &mut String,
@@ -142,6 +163,7 @@ fn with_client<R: Wait, D: Disk, J: Naming>(
         keeper,
         publisher,
         hall,
+        hangs,
         seat,
         &mut client,
         words,
@@ -149,19 +171,20 @@ fn with_client<R: Wait, D: Disk, J: Naming>(
     )
 }
 
-fn beside_client<R: Wait, D: Disk, J: Naming>(
+fn beside_client<R: Wait, W: Wait + Drop, D: Disk, J: Naming>(
     rt: &R,
     alloc: Global,
     keeper: &mut Keeper<'_, D>,
     publisher: &mut Publisher<J>,
-    hall: &mut ListHall<MemEnd>,
+    hall: &mut ListHall<W, MemEnd, J>,
+    hangs: &mut Front<Event, Events<J>>,
     seat: &mut Seat<J>,
     client: &mut CutLink,
     words: &str,
     text: &mut String,
 ) -> Result<(), Failure> {
     let entered = enters(hall, seat, client)?;
-    put_served(rt, alloc, keeper, publisher, hall, words, text)?;
+    put_served(rt, alloc, keeper, publisher, hall, hangs, words, text)?;
     let standing = format!(in alloc;
         "commit {}{} published {} cleared {} stops {} client {} checked ",
         keeper.desk().commit(),
@@ -188,7 +211,7 @@ fn client_word(entered: bool, is_up: bool) -> &'static str {
 }
 
 // Whether the client was let in.
-fn enters<A: Hall, L: Link<End = A::End>, J: Naming>(
+fn enters<J: Naming, A: Hall<List = J>, L: Link<End = A::End>>(
     hall: &mut A,
     seat: &mut Seat<J>,
     client: &mut L,

@@ -4,8 +4,10 @@ use cases_words::Failure;
 use cynara_keys::Question;
 use door_frames::Ended;
 use link_ports::MemEnd;
+use live_desk::Naming;
 use server_hall::ListHall;
 use std::alloc::{AllocError, Global};
+use std::sync::Wait;
 
 fn put_question(text: &mut String, found: &Option<Question>) -> Result<(), AllocError> {
     match found {
@@ -44,11 +46,11 @@ pub fn ended_text(alloc: Global, ended: &Ended) -> Result<String, AllocError> {
 }
 
 /// The answer of a case: how the connection ended, what was sent, and what the hall counts.
-pub fn shown(
+pub fn shown<R: Wait + Drop, J: Naming>(
     alloc: Global,
     ended: &Ended,
     sent: &[u8],
-    hall: &ListHall<MemEnd>,
+    hall: &ListHall<R, MemEnd, J>,
 ) -> Result<String, Failure> {
     let mut text = ended_text(alloc, ended)?;
     text.push_str(" | ")?;

@@ -2,14 +2,14 @@
 use crate::states::question;
 use cynara_keys::{Kind, Metadata};
 use link_ports::{Link, MemEnd, MemLink};
-use live_desk::{Naming, Publisher, Seat};
+use live_desk::{Event, Events, Front, Naming, Publisher, Seat};
 use server_hall::{Hall, Locked};
 use std::alloc::Global;
 use std::sync::Wait;
 use std::time::Clock;
 
 fn enter<R: Wait + Clock + Drop, J: Naming>(
-    hall: &mut Locked<'_, R, MemEnd>,
+    hall: &mut Locked<'_, R, MemEnd, J>,
     seat: &mut Seat<J>,
     link: &mut MemLink,
 ) -> Option<u64> {
@@ -17,18 +17,18 @@ fn enter<R: Wait + Clock + Drop, J: Naming>(
     hall.enter(end, seat).ok()
 }
 
-fn join_twice<R: Wait + Clock + Drop>(
+fn join_twice<R: Wait + Clock + Drop, J: Naming>(
     alloc: Global,
-    hall: &mut Locked<'_, R, MemEnd>,
+    hall: &mut Locked<'_, R, MemEnd, J>,
 ) -> Option<String> {
     let joined = hall.join(Kind(10));
     let twice = hall.join(Kind(10));
     format!(in alloc; "join {joined:?} and {twice:?}").ok()
 }
 
-fn ask<R: Wait + Clock + Drop>(
+fn ask<R: Wait + Clock + Drop, J: Naming>(
     alloc: Global,
-    hall: &mut Locked<'_, R, MemEnd>,
+    hall: &mut Locked<'_, R, MemEnd, J>,
     kind: Kind,
     link: &mut MemLink,
 ) -> Option<String> {
@@ -42,26 +42,26 @@ fn ask<R: Wait + Clock + Drop>(
     format!(in alloc; "ask {refusal:?}").ok()
 }
 
-fn answer<R: Wait + Clock + Drop>(
+fn answer<R: Wait + Clock + Drop, J: Naming>(
     alloc: Global,
-    hall: &mut Locked<'_, R, MemEnd>,
+    hall: &mut Locked<'_, R, MemEnd, J>,
 ) -> Option<String> {
     let answered = hall.answer(Kind(10), 0, true);
     format!(in alloc; "answer {answered:?}").ok()
 }
 
-fn leave<R: Wait + Clock + Drop>(
+fn leave<R: Wait + Clock + Drop, J: Naming>(
     alloc: Global,
-    hall: &mut Locked<'_, R, MemEnd>,
+    hall: &mut Locked<'_, R, MemEnd, J>,
     entered: u64,
 ) -> Option<String> {
     let left = hall.leave(0, entered);
     format!(in alloc; "leave {left:?}").ok()
 }
 
-fn counts<R: Wait + Clock + Drop>(
+fn counts<R: Wait + Clock + Drop, J: Naming>(
     alloc: Global,
-    hall: &mut Locked<'_, R, MemEnd>,
+    hall: &mut Locked<'_, R, MemEnd, J>,
 ) -> Option<String> {
     let leaves = hall.tally().leaves();
     let stops = hall.tally().stops();
@@ -70,7 +70,10 @@ fn counts<R: Wait + Clock + Drop>(
 }
 
 // What the hall tells of the service: the kinds that have an agent, and how many of the workers serve.
-fn service<R: Wait + Clock + Drop>(alloc: Global, hall: &Locked<'_, R, MemEnd>) -> Option<String> {
+fn service<R: Wait + Clock + Drop, J: Naming>(
+    alloc: Global,
+    hall: &Locked<'_, R, MemEnd, J>,
+) -> Option<String> {
     let view = hall.service(alloc).ok()?;
     let kinds = view.kinds.as_slice();
     let served = view.served;
@@ -81,7 +84,7 @@ fn service<R: Wait + Clock + Drop>(alloc: Global, hall: &Locked<'_, R, MemEnd>) 
 /// Tells of itself, enters, joins, asks in vain, answers in vain, leaves and enters again by a further link.
 pub fn before_a_commit<R: Wait + Clock + Drop, J: Naming>(
     alloc: Global,
-    hall: &mut Locked<'_, R, MemEnd>,
+    hall: &mut Locked<'_, R, MemEnd, J>,
     seat: &mut Seat<J>,
     link: &mut MemLink,
     further: &mut MemLink,
@@ -104,12 +107,13 @@ pub fn before_a_commit<R: Wait + Clock + Drop, J: Naming>(
 /// Hangs up what entered before the commit, leaves and enters by a further link.
 pub fn behind_a_commit<R: Wait + Clock + Drop, J: Naming>(
     alloc: Global,
-    hall: &mut Locked<'_, R, MemEnd>,
+    hall: &mut Locked<'_, R, MemEnd, J>,
     seat: &mut Seat<J>,
     publisher: &Publisher<J>,
+    hangs: &mut Front<Event, Events<J>>,
     link: &mut MemLink,
 ) -> Option<String> {
-    hall.hang(publisher);
+    hall.hang(publisher, hangs);
     let cleared = hall.tally().cleared();
     let hung = service(alloc, hall)?;
     let left = leave(alloc, hall, 0)?;
@@ -128,16 +132,17 @@ pub fn behind_a_commit<R: Wait + Clock + Drop, J: Naming>(
 pub fn between_publication_and_hang_up<R: Wait, W: Wait + Clock + Drop, J: Naming>(
     rt: &R,
     alloc: Global,
-    hall: &mut Locked<'_, W, MemEnd>,
+    hall: &mut Locked<'_, W, MemEnd, J>,
     seat: &mut Seat<J>,
     publisher: &Publisher<J>,
+    hangs: &mut Front<Event, Events<J>>,
     link: &mut MemLink,
     further: &mut MemLink,
 ) -> Option<String> {
     let entered = enter(hall, seat, link)?;
     let checked = checked_at(rt, alloc, seat)?;
     let was_up = link.is_up();
-    hall.hang(publisher);
+    hall.hang(publisher, hangs);
     let up = link.is_up();
     let left = leave(alloc, hall, entered)?;
     let again = enter(hall, seat, further)?;
@@ -157,7 +162,7 @@ fn checked_at<R: Wait, J: Naming>(rt: &R, alloc: Global, seat: &mut Seat<J>) -> 
 /// Is refused everything.
 pub fn behind_a_stop<R: Wait + Clock + Drop, J: Naming>(
     alloc: Global,
-    hall: &mut Locked<'_, R, MemEnd>,
+    hall: &mut Locked<'_, R, MemEnd, J>,
     seat: &mut Seat<J>,
     link: &mut MemLink,
 ) -> Option<String> {
@@ -174,7 +179,7 @@ pub fn behind_a_stop<R: Wait + Clock + Drop, J: Naming>(
 
 fn refused_entry<R: Wait + Clock + Drop, J: Naming>(
     alloc: Global,
-    hall: &mut Locked<'_, R, MemEnd>,
+    hall: &mut Locked<'_, R, MemEnd, J>,
     seat: &mut Seat<J>,
     link: &mut MemLink,
 ) -> Option<String> {
@@ -183,9 +188,9 @@ fn refused_entry<R: Wait + Clock + Drop, J: Naming>(
     format!(in alloc; "enter {entered:?}").ok()
 }
 
-fn refused_agent<R: Wait + Clock + Drop>(
+fn refused_agent<R: Wait + Clock + Drop, J: Naming>(
     alloc: Global,
-    hall: &mut Locked<'_, R, MemEnd>,
+    hall: &mut Locked<'_, R, MemEnd, J>,
     link: &mut MemLink,
 ) -> Option<String> {
     let joined = hall.join(Kind(11));
@@ -194,9 +199,9 @@ fn refused_agent<R: Wait + Clock + Drop>(
 }
 
 /// Whoever asks has left, and so has the agent: the question is taken away, and nobody is given it.
-pub fn behind_those_who_left<R: Wait + Clock + Drop>(
+pub fn behind_those_who_left<R: Wait + Clock + Drop, J: Naming>(
     alloc: Global,
-    hall: &mut Locked<'_, R, MemEnd>,
+    hall: &mut Locked<'_, R, MemEnd, J>,
     asker: &mut MemLink,
     agent: &mut MemLink,
 ) -> Option<String> {
@@ -215,9 +220,9 @@ pub fn behind_those_who_left<R: Wait + Clock + Drop>(
 }
 
 /// As many kinds have an agent as may, and one more comes.
-pub fn with_all_agents<R: Wait + Clock + Drop>(
+pub fn with_all_agents<R: Wait + Clock + Drop, J: Naming>(
     alloc: Global,
-    hall: &mut Locked<'_, R, MemEnd>,
+    hall: &mut Locked<'_, R, MemEnd, J>,
 ) -> Option<String> {
     let mut joined = 0u32;
     for number in 2..20 {
@@ -228,7 +233,10 @@ pub fn with_all_agents<R: Wait + Clock + Drop>(
 }
 
 // How many agents of the kind were taken in: one, or none.
-fn taken_in<R: Wait + Clock + Drop>(hall: &mut Locked<'_, R, MemEnd>, kind: Kind) -> u32 {
+fn taken_in<R: Wait + Clock + Drop, J: Naming>(
+    hall: &mut Locked<'_, R, MemEnd, J>,
+    kind: Kind,
+) -> u32 {
     if !kind.is_agent() {
         return 0;
     }

@@ -7,7 +7,7 @@ use crate::cases::HallCase;
 use crate::states::{States, link_closed_after, publish_next, quiet_link};
 use desk_state::Desk;
 use link_ports::MemEnd;
-use live_desk::{Naming, Publisher, Roll, Seat};
+use live_desk::{Event, Events, Front, Naming, Publisher, Roll, Seat};
 use server_hall::{Locked, QuestionDesk};
 use std::alloc::Global;
 use std::sync::{Mutex, Wait};
@@ -18,17 +18,20 @@ pub fn in_hall<R: Wait + Clock, J: Naming>(
     rt: &R,
     alloc: Global,
     states: &mut States<J>,
-    roll: &Mutex<Roll<MemEnd>>,
+    roll: &Mutex<Roll<MemEnd, J>>,
     questions: &QuestionDesk,
     case: HallCase,
 ) -> Option<String> {
     let seat = states.seats.first_mut()?;
     let desk = &mut states.desk;
     let publisher = &mut states.publisher;
+    let mut hangs = roll.lock(rt).known().again();
     let mut hall = Locked::new(rt, roll, questions);
     match case {
-        HallCase::Conversation => converse(rt, alloc, &mut hall, desk, publisher, seat, questions),
-        HallCase::LateComer => comes_late(rt, alloc, &mut hall, desk, publisher, seat),
+        HallCase::Conversation => converse(
+            rt, alloc, &mut hall, desk, publisher, &mut hangs, seat, questions,
+        ),
+        HallCase::LateComer => comes_late(rt, alloc, &mut hall, desk, publisher, &mut hangs, seat),
         HallCase::Leavers => line_of_leavers(alloc, &mut hall),
     }
 }
@@ -37,9 +40,10 @@ pub fn in_hall<R: Wait + Clock, J: Naming>(
 fn comes_late<R: Wait, W: Wait + Clock + Drop, J: Naming>(
     rt: &R,
     alloc: Global,
-    hall: &mut Locked<'_, W, MemEnd>,
+    hall: &mut Locked<'_, W, MemEnd, J>,
     desk: &mut Desk,
     publisher: &mut Publisher<J>,
+    hangs: &mut Front<Event, Events<J>>,
     seat: &mut Seat<J>,
 ) -> Option<String> {
     let mut link = quiet_link(alloc)?;
@@ -51,6 +55,7 @@ fn comes_late<R: Wait, W: Wait + Clock + Drop, J: Naming>(
         hall,
         seat,
         publisher,
+        hangs,
         &mut link,
         &mut further,
     )?;
@@ -61,15 +66,16 @@ fn comes_late<R: Wait, W: Wait + Clock + Drop, J: Naming>(
 fn converse<R: Wait, W: Wait + Clock + Drop, J: Naming>(
     rt: &R,
     alloc: Global,
-    hall: &mut Locked<'_, W, MemEnd>,
+    hall: &mut Locked<'_, W, MemEnd, J>,
     desk: &mut Desk,
     publisher: &mut Publisher<J>,
+    hangs: &mut Front<Event, Events<J>>,
     seat: &mut Seat<J>,
     questions: &QuestionDesk,
 ) -> Option<String> {
     let first = line_before_a_commit(alloc, hall, seat)?;
     publish_next(rt, alloc, desk, publisher)?;
-    let second = line_behind_a_commit(alloc, hall, seat, publisher)?;
+    let second = line_behind_a_commit(alloc, hall, seat, publisher, hangs)?;
     let third = line_behind_a_stop(alloc, hall, seat)?;
     let stopped = questions.is_stopped(rt);
     format!(in alloc; "{first}\n{second}\n{third}; table stopped {stopped}").ok()
@@ -77,7 +83,7 @@ fn converse<R: Wait, W: Wait + Clock + Drop, J: Naming>(
 
 fn line_before_a_commit<R: Wait + Clock + Drop, J: Naming>(
     alloc: Global,
-    hall: &mut Locked<'_, R, MemEnd>,
+    hall: &mut Locked<'_, R, MemEnd, J>,
     seat: &mut Seat<J>,
 ) -> Option<String> {
     let mut link = quiet_link(alloc)?;
@@ -87,17 +93,18 @@ fn line_before_a_commit<R: Wait + Clock + Drop, J: Naming>(
 
 fn line_behind_a_commit<R: Wait + Clock + Drop, J: Naming>(
     alloc: Global,
-    hall: &mut Locked<'_, R, MemEnd>,
+    hall: &mut Locked<'_, R, MemEnd, J>,
     seat: &mut Seat<J>,
     publisher: &Publisher<J>,
+    hangs: &mut Front<Event, Events<J>>,
 ) -> Option<String> {
     let mut link = quiet_link(alloc)?;
-    behind_a_commit(alloc, hall, seat, publisher, &mut link)
+    behind_a_commit(alloc, hall, seat, publisher, hangs, &mut link)
 }
 
 fn line_behind_a_stop<R: Wait + Clock + Drop, J: Naming>(
     alloc: Global,
-    hall: &mut Locked<'_, R, MemEnd>,
+    hall: &mut Locked<'_, R, MemEnd, J>,
     seat: &mut Seat<J>,
 ) -> Option<String> {
     let mut link = quiet_link(alloc)?;
@@ -105,9 +112,9 @@ fn line_behind_a_stop<R: Wait + Clock + Drop, J: Naming>(
 }
 
 // What the calls answer where those who wait have left, and where no further agent is taken in.
-fn line_of_leavers<R: Wait + Clock + Drop>(
+fn line_of_leavers<R: Wait + Clock + Drop, J: Naming>(
     alloc: Global,
-    hall: &mut Locked<'_, R, MemEnd>,
+    hall: &mut Locked<'_, R, MemEnd, J>,
 ) -> Option<String> {
     let mut asker = link_closed_after(alloc, 0)?;
     let mut agent = link_closed_after(alloc, 0)?;

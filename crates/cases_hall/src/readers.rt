@@ -50,7 +50,7 @@ pub fn on_threads<R: Wait + Threads + Sync, J: Naming + Send + Sync>(
     rt: &R,
     alloc: Global,
     states: &mut States<J>,
-    roll: &Mutex<Roll<MemEnd>>,
+    roll: &Mutex<Roll<MemEnd, J>>,
 ) -> Option<String> {
     let seats = &mut states.seats;
     by_four(
@@ -64,13 +64,13 @@ pub fn on_threads<R: Wait + Threads + Sync, J: Naming + Send + Sync>(
 }
 
 // What a thread is given to watch by.
-trait Watcher {
+trait Watcher<J: Naming> {
     // Checks until an answer is at the last commit. How many answers were wrong.
-    fn watch<R: Wait>(self, rt: &R, alloc: Global, roll: &Mutex<Roll<MemEnd>>) -> Option<u64>;
+    fn watch<R: Wait>(self, rt: &R, alloc: Global, roll: &Mutex<Roll<MemEnd, J>>) -> Option<u64>;
 }
 
-impl<J: Naming> Watcher for Seat<J> {
-    fn watch<R: Wait>(self, rt: &R, alloc: Global, roll: &Mutex<Roll<MemEnd>>) -> Option<u64> {
+impl<J: Naming> Watcher<J> for Seat<J> {
+    fn watch<R: Wait>(self, rt: &R, alloc: Global, roll: &Mutex<Roll<MemEnd, J>>) -> Option<u64> {
         let mut seat = self;
         let question = question(alloc)?;
         check_until_last(rt, alloc, &mut seat, roll, &question)
@@ -79,13 +79,13 @@ impl<J: Naming> Watcher for Seat<J> {
 
 // proof: the threads know a seat by its type's parameter alone; what it is made of is too much for the proof of each
 // that it may go to another thread.
-fn by_four<W: Watcher + Send + Drop, R: Wait + Threads + Sync, J: Naming>(
+fn by_four<W: Watcher<J> + Send + Drop, R: Wait + Threads + Sync, J: Naming + Send + Sync>(
     rt: &R,
     alloc: Global,
     desk: &mut Desk,
     publisher: &mut Publisher<J>,
     watchers: &mut Vec<W>,
-    roll: &Mutex<Roll<MemEnd>>,
+    roll: &Mutex<Roll<MemEnd, J>>,
 ) -> Option<String> {
     let fourth = watchers.pop()?;
     let third = watchers.pop()?;
@@ -105,14 +105,14 @@ fn by_four<W: Watcher + Send + Drop, R: Wait + Threads + Sync, J: Naming>(
 }
 
 // What four watchers met side by side, two and two.
-fn watch_by_pairs<W: Watcher + Send + Drop, R: Wait + Threads + Sync>(
+fn watch_by_pairs<W: Watcher<J> + Send + Drop, R: Wait + Threads + Sync, J: Naming + Send + Sync>(
     rt: &R,
     alloc: Global,
     first: W,
     second: W,
     third: W,
     fourth: W,
-    roll: &Mutex<Roll<MemEnd>>,
+    roll: &Mutex<Roll<MemEnd, J>>,
 ) -> ((Option<u64>, Option<u64>), (Option<u64>, Option<u64>)) {
     join(
         rt,
@@ -121,12 +121,12 @@ fn watch_by_pairs<W: Watcher + Send + Drop, R: Wait + Threads + Sync>(
     )
 }
 
-fn watch_by_two<W: Watcher + Send + Drop, R: Wait + Threads + Sync>(
+fn watch_by_two<W: Watcher<J> + Send + Drop, R: Wait + Threads + Sync, J: Naming + Send + Sync>(
     rt: &R,
     alloc: Global,
     first: W,
     second: W,
-    roll: &Mutex<Roll<MemEnd>>,
+    roll: &Mutex<Roll<MemEnd, J>>,
 ) -> (Option<u64>, Option<u64>) {
     join(
         rt,
@@ -141,14 +141,14 @@ fn publish_all<R: Wait, J: Naming>(
     alloc: Global,
     desk: &mut Desk,
     publisher: &mut Publisher<J>,
-    roll: &Mutex<Roll<MemEnd>>,
+    roll: &Mutex<Roll<MemEnd, J>>,
 ) -> u64 {
     for published in 0..PUBLICATIONS {
         let Some(commit) = publish_next(rt, alloc, desk, publisher) else {
             roll.lock(rt).stop();
             return published;
         };
-        roll.lock(rt).hang_all(commit);
+        roll.lock(rt).hang_all(rt, commit);
     }
     PUBLICATIONS
 }
@@ -158,7 +158,7 @@ fn check_until_last<R: Wait, J: Naming>(
     rt: &R,
     alloc: Global,
     seat: &mut Seat<J>,
-    roll: &Mutex<Roll<MemEnd>>,
+    roll: &Mutex<Roll<MemEnd, J>>,
     question: &Question,
 ) -> Option<u64> {
     let mut watch = Watch { last: 0, wrong: 0 };
@@ -178,13 +178,13 @@ fn check_until_last<R: Wait, J: Naming>(
 fn visit<R: Wait, L: Link, J: Naming>(
     rt: &R,
     seat: &mut Seat<J>,
-    roll: &Mutex<Roll<L::End>>,
+    roll: &Mutex<Roll<L::End, J>>,
     question: &Question,
     watch: &mut Watch,
     link: &mut L,
 ) -> Option<()> {
     let end = link.hang_end().ok()?;
-    let entered = roll.lock(rt).enter(end, seat).ok()?;
+    let entered = roll.lock(rt).enter(rt, end, seat).ok()?;
     let answer = seat.check_with(
         rt,
         &question.borrowed(),

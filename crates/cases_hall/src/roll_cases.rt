@@ -13,7 +13,7 @@ pub fn at_roll<R: Wait, J: Naming>(
     rt: &R,
     alloc: Global,
     states: &mut States<J>,
-    roll: &Mutex<Roll<MemEnd>>,
+    roll: &Mutex<Roll<MemEnd, J>>,
     case: RollCase,
 ) -> Option<String> {
     let (mut a, mut b) = both(quiet_link(alloc), quiet_link(alloc))?;
@@ -31,17 +31,17 @@ fn tell<J: Naming, R: Wait, L: Link>(
     rt: &R,
     alloc: Global,
     states: &mut States<J>,
-    roll: &mut Roll<L::End>,
+    roll: &mut Roll<L::End, J>,
     case: RollCase,
     a: &mut L,
     b: &mut L,
 ) -> Option<String> {
     match case {
         RollCase::HungUpByACommit => commit_hangs_up(rt, alloc, states, roll, a, b),
-        RollCase::LeftAndHungUp => leaving_hangs_up(alloc, states, roll, a, b),
+        RollCase::LeftAndHungUp => leaving_hangs_up(rt, alloc, states, roll, a, b),
         RollCase::EnteredAfterAPublication => enters_later(rt, alloc, states, roll, a),
-        RollCase::HungUpByALaterEnd => later_end_hangs_up(alloc, states, roll, a, b),
-        RollCase::Stopped => stopping_hangs_up(alloc, states, roll, a, b),
+        RollCase::HungUpByALaterEnd => later_end_hangs_up(rt, alloc, states, roll, a, b),
+        RollCase::Stopped => stopping_hangs_up(rt, alloc, states, roll, a, b),
         RollCase::DroppedWhenReady => ready_is_dropped(rt, alloc, states),
     }
 }
@@ -51,23 +51,25 @@ fn publish<J: Naming, R: Wait>(rt: &R, alloc: Global, states: &mut States<J>) ->
 }
 
 // The link enters in the place of the first seat or of the second. The commit at which it does.
-fn enter<J: Naming, L: Link>(
+fn enter<J: Naming, R: Wait, L: Link>(
+    rt: &R,
     states: &mut States<J>,
-    roll: &mut Roll<L::End>,
+    roll: &mut Roll<L::End, J>,
     seat: usize,
     link: &mut L,
 ) -> Option<u64> {
     let seat = states.seats.get_mut(seat)?;
-    enter_roll(roll, seat, link)
+    enter_roll(rt, roll, seat, link)
 }
 
-fn enter_roll<L: Link, J: Naming>(
-    roll: &mut Roll<L::End>,
+fn enter_roll<R: Wait, L: Link, J: Naming>(
+    rt: &R,
+    roll: &mut Roll<L::End, J>,
     seat: &mut Seat<J>,
     link: &mut L,
 ) -> Option<u64> {
     let end = link.hang_end().ok()?;
-    roll.enter(end, seat).ok()
+    roll.enter(rt, end, seat).ok()
 }
 
 // What the first seat is answered: the commit, and the kind.
@@ -87,19 +89,19 @@ fn commit_hangs_up<J: Naming, R: Wait, L: Link>(
     rt: &R,
     alloc: Global,
     states: &mut States<J>,
-    roll: &mut Roll<L::End>,
+    roll: &mut Roll<L::End, J>,
     a: &mut L,
     b: &mut L,
 ) -> Option<String> {
-    let one = enter(states, roll, 0, a)?;
+    let one = enter(rt, states, roll, 0, a)?;
     let commit = publish(rt, alloc, states)?;
-    let two = enter(states, roll, 1, b)?;
-    roll.hang_all(commit);
+    let two = enter(rt, states, roll, 1, b)?;
+    roll.hang_all(rt, commit);
     let up_a = a.is_up();
     let up_b = b.is_up();
     let left_a = roll.leave(0, one);
     let left_b = roll.leave(1, two);
-    let again = enter(states, roll, 0, a)?;
+    let again = enter(rt, states, roll, 0, a)?;
     let (at, kind) = check_first(rt, alloc, states)?;
     format!(in alloc;
         "a commit: entered at {one} and {two}, hung up at {commit}; up {up_a} and {up_b}; {left_a:?} and {left_b:?}; entered at {again}, answered {kind} at {at}"
@@ -107,15 +109,16 @@ fn commit_hangs_up<J: Naming, R: Wait, L: Link>(
 }
 
 // A seat leaves, and its link is hung up.
-fn leaving_hangs_up<J: Naming, L: Link>(
+fn leaving_hangs_up<J: Naming, R: Wait, L: Link>(
+    rt: &R,
     alloc: Global,
     states: &mut States<J>,
-    roll: &mut Roll<L::End>,
+    roll: &mut Roll<L::End, J>,
     a: &mut L,
     b: &mut L,
 ) -> Option<String> {
-    let one = enter(states, roll, 0, a)?;
-    let two = enter(states, roll, 1, b)?;
+    let one = enter(rt, states, roll, 0, a)?;
+    let two = enter(rt, states, roll, 1, b)?;
     let before = a.is_up();
     let left = roll.leave(0, one);
     let up_a = a.is_up();
@@ -131,15 +134,15 @@ fn enters_later<J: Naming, R: Wait, L: Link>(
     rt: &R,
     alloc: Global,
     states: &mut States<J>,
-    roll: &mut Roll<L::End>,
+    roll: &mut Roll<L::End, J>,
     a: &mut L,
 ) -> Option<String> {
     let (first_at, first_kind) = check_first(rt, alloc, states)?;
     let commit = publish(rt, alloc, states)?;
-    roll.hang_all(commit);
-    let entered = enter(states, roll, 0, a)?;
+    roll.hang_all(rt, commit);
+    let entered = enter(rt, states, roll, 0, a)?;
     let (at, kind) = check_first(rt, alloc, states)?;
-    roll.hang_all(0);
+    roll.hang_all(rt, 0);
     let up = a.is_up();
     let note = roll.note();
     format!(in alloc;
@@ -148,15 +151,16 @@ fn enters_later<J: Naming, R: Wait, L: Link>(
 }
 
 // A seat enters twice, and the end of its first link is hung up.
-fn later_end_hangs_up<J: Naming, L: Link>(
+fn later_end_hangs_up<J: Naming, R: Wait, L: Link>(
+    rt: &R,
     alloc: Global,
     states: &mut States<J>,
-    roll: &mut Roll<L::End>,
+    roll: &mut Roll<L::End, J>,
     a: &mut L,
     b: &mut L,
 ) -> Option<String> {
-    enter(states, roll, 0, a)?;
-    let entered = enter(states, roll, 0, b)?;
+    enter(rt, states, roll, 0, a)?;
+    let entered = enter(rt, states, roll, 0, b)?;
     let up_a = a.is_up();
     let up_b = b.is_up();
     let left = roll.leave(0, entered);
@@ -165,19 +169,20 @@ fn later_end_hangs_up<J: Naming, L: Link>(
 }
 
 // The roll is stopped, and its note rises later.
-fn stopping_hangs_up<J: Naming, L: Link>(
+fn stopping_hangs_up<J: Naming, R: Wait, L: Link>(
+    rt: &R,
     alloc: Global,
     states: &mut States<J>,
-    roll: &mut Roll<L::End>,
+    roll: &mut Roll<L::End, J>,
     a: &mut L,
     b: &mut L,
 ) -> Option<String> {
-    let entered = enter(states, roll, 0, a)?;
+    let entered = enter(rt, states, roll, 0, a)?;
     roll.stop();
     let up_a = a.is_up();
-    let refused = enter(states, roll, 1, b).is_none();
+    let refused = enter(rt, states, roll, 1, b).is_none();
     let left = roll.leave(0, entered);
-    roll.hang_all(3);
+    roll.hang_all(rt, 3);
     let later = roll.leave(1, entered);
     let stopped = roll.is_stopped();
     format!(in alloc;
@@ -213,7 +218,7 @@ pub fn at_last_seat<R: Wait, J: Naming>(
     rt: &R,
     alloc: Global,
     seats: &mut [Seat<J>],
-    roll: &Mutex<Roll<MemEnd>>,
+    roll: &Mutex<Roll<MemEnd, J>>,
 ) -> Option<String> {
     let (mut link, question) = both(quiet_link(alloc), question(alloc))?;
     let mut roll = roll.lock(rt);
@@ -227,16 +232,16 @@ fn last_of<R: Wait, L: Link, J: Naming>(
     rt: &R,
     alloc: Global,
     seats: &mut [Seat<J>],
-    roll: &mut Roll<L::End>,
+    roll: &mut Roll<L::End, J>,
     link: &mut L,
     question: &Question,
 ) -> Option<String> {
     let count = seats.len();
     let last = seats.last_mut()?;
     let number = last.number();
-    let entered = enter_roll(roll, last, link)?;
+    let entered = enter_roll(rt, roll, last, link)?;
     let commit = last.check(rt, question).commit;
-    roll.hang_all(1);
+    roll.hang_all(rt, 1);
     let up = link.is_up();
     let left = roll.leave(number, entered);
     format!(in alloc;

@@ -9,7 +9,7 @@ use crate::roll_cases::{at_last_seat, at_roll};
 use crate::states::{States, make_next};
 use desk_state::Desk;
 use link_ports::MemEnd;
-use live_desk::{Naming, Opened, Roll, start};
+use live_desk::{Event, Naming, Opened, Roll, start};
 use server_hall::QuestionDesk;
 use std::alloc::{AllocError, Global};
 use std::marker::Brand;
@@ -23,19 +23,28 @@ pub fn told<R: Wait + Clock + Threads + Sync>(
     alloc: Global,
     case: Case,
 ) -> Result<String, AllocError> {
-    told_named::<Brand, R>(rt, alloc, Opened::new(), case)
+    told_named::<Brand, R>(rt, alloc, Opened::new(), Opened::new(), case)
 }
 
 fn told_named<J: Naming + Send + Sync, R: Wait + Clock + Threads + Sync>(
     rt: &R,
     alloc: Global,
     opened: Opened<Desk>,
+    happened: Opened<Event>,
     case: Case,
 ) -> Result<String, AllocError>
-    requires { book_of opened ≡ J.book }
+    requires list { book_of opened ≡ J.book }
+    requires log { book_of happened ≡ J.events }
 {
     let desk = first_state(alloc, case)?;
-    let (publisher, seats, roll) = start::<J, _, R>(rt, alloc, opened, &desk, case.seats())?;
+    let (publisher, seats, roll) = start::<J, _, R>(
+        rt,
+        alloc,
+        opened,
+        happened,
+        &desk,
+        case.seats(),
+    )?;
     let mut states = States {
         desk,
         publisher,
@@ -63,7 +72,7 @@ fn over_states<J: Naming + Send + Sync, R: Wait + Clock + Threads + Sync>(
     rt: &R,
     alloc: Global,
     states: &mut States<J>,
-    roll: &Mutex<Roll<MemEnd>>,
+    roll: &Mutex<Roll<MemEnd, J>>,
     questions: &QuestionDesk,
     case: Case,
 ) -> Option<String> {

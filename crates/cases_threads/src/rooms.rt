@@ -10,7 +10,7 @@ use desk_ports::{Disk, MemDisk};
 use desk_state::Desk;
 use joined_net::{JoinedEnd, JoinedLink, JoinedNet};
 use link_ports::{Dial, Door, DoorKind, Net};
-use live_desk::{Naming, Opened, Publisher, Roll, Seat, start};
+use live_desk::{Event, Naming, Opened, Publisher, Roll, Seat, start};
 use server_hall::QuestionDesk;
 use std::alloc::Global;
 use std::marker::Brand;
@@ -42,21 +42,30 @@ fn with_keeper<D: Disk, R: Threads + Wait + Sync + Clock>(
     steps: &str,
 ) -> Result<String, Failure> {
     let steps = String::from_str(alloc, steps)?;
-    with_keeper_named::<Brand, D, R>(rt, alloc, Opened::new(), keeper, &steps)
+    with_keeper_named::<Brand, D, R>(rt, alloc, Opened::new(), Opened::new(), keeper, &steps)
 }
 
-// The same, over a list of states that the caller picks.
+// The same, over lists that the caller picks, of states and of events.
 // proof: the steps are lent as a `String`; the prover offers no pick for a function that takes a `&str`.
 fn with_keeper_named<J: Naming + Send + Sync, D: Disk, R: Threads + Wait + Sync + Clock>(
     rt: &R,
     alloc: Global,
     opened: Opened<Desk>,
+    happened: Opened<Event>,
     keeper: &mut Keeper<'_, D>,
     steps: &String,
 ) -> Result<String, Failure>
-    requires { book_of opened ≡ J.book }
+    requires list { book_of opened ≡ J.book }
+    requires log { book_of happened ≡ J.events }
 {
-    let (mut publisher, seats, roll) = start::<J, _, R>(rt, alloc, opened, keeper.desk(), 2)?;
+    let (mut publisher, seats, roll) = start::<J, _, R>(
+        rt,
+        alloc,
+        opened,
+        happened,
+        keeper.desk(),
+        2,
+    )?;
     let told = with_seats(
         rt,
         alloc,
@@ -76,10 +85,11 @@ fn with_seats<'a, D: Disk, R: Threads + Wait + Sync + Clock, J: Naming + Send + 
     keeper: &mut Keeper<'_, D>,
     publisher: &mut Publisher<J>,
     seats: Vec<Seat<J>>,
-    roll: Roll<JoinedEnd<&'a R>>,
+    roll: Roll<JoinedEnd<&'a R>, J>,
     steps: &str,
 ) -> Result<String, Failure> {
     let mut seats = seats;
+    let mut hangs = roll.known().again();
     let roll = Mutex::new(roll);
     let questions = QuestionDesk::new(alloc);
     let Some(second) = seats.pop() else {
@@ -95,7 +105,8 @@ fn with_seats<'a, D: Disk, R: Threads + Wait + Sync + Clock, J: Naming + Send + 
     let a = accepted(alloc, &mut net, DoorKind::Agent, "a", &mut links)?;
     let m = accepted(alloc, &mut net, DoorKind::Admin, "m", &mut links)?;
     let told = all(
-        rt, alloc, first, second, keeper, publisher, &roll, &questions, x, y, a, m, links, steps,
+        rt, alloc, first, second, keeper, publisher, &mut hangs, &roll, &questions, x, y, a, m,
+        links, steps,
     );
     told
 }

@@ -7,7 +7,7 @@ use desk_keeper::Keeper;
 use desk_ports::Disk;
 use desk_server::{serve_admin, serve_agent, serve_client};
 use link_ports::{Link, OpenGate};
-use live_desk::{Naming, Publisher, Roll, Seat};
+use live_desk::{Event, Events, Front, Naming, Publisher, Roll, Seat};
 use server_hall::QuestionDesk;
 use std::alloc::{AllocError, Global};
 use std::sync::{Mutex, Wait};
@@ -15,24 +15,24 @@ use std::thread::{Threads, join};
 use std::time::Clock;
 
 /// What serves a client.
-pub trait Place {
+pub trait Place<J: Naming> {
     /// Serves the connection. How it ended.
     fn serve<R: Wait + Clock, L: Link + Drop>(
         self,
         rt: &R,
         alloc: Global,
-        roll: &Mutex<Roll<L::End>>,
+        roll: &Mutex<Roll<L::End, J>>,
         questions: &QuestionDesk,
         link: L,
     ) -> Result<String, AllocError>;
 }
 
-impl<J: Naming> Place for Seat<J> {
+impl<J: Naming> Place<J> for Seat<J> {
     fn serve<R: Wait + Clock, L: Link + Drop>(
         self,
         rt: &R,
         alloc: Global,
-        roll: &Mutex<Roll<L::End>>,
+        roll: &Mutex<Roll<L::End, J>>,
         questions: &QuestionDesk,
         link: L,
     ) -> Result<String, AllocError> {
@@ -44,10 +44,10 @@ impl<J: Naming> Place for Seat<J> {
     }
 }
 
-fn agent<R: Wait + Clock, L: Link + Drop>(
+fn agent<R: Wait + Clock, L: Link + Drop, J: Naming>(
     rt: &R,
     alloc: Global,
-    roll: &Mutex<Roll<L::End>>,
+    roll: &Mutex<Roll<L::End, J>>,
     questions: &QuestionDesk,
     link: L,
 ) -> Result<String, AllocError> {
@@ -63,25 +63,33 @@ fn administrator<R: Wait + Clock, D: Disk, L: Link + Drop, J: Naming>(
     alloc: Global,
     keeper: &mut Keeper<'_, D>,
     publisher: &mut Publisher<J>,
-    roll: &Mutex<Roll<L::End>>,
+    hangs: &mut Front<Event, Events<J>>,
+    roll: &Mutex<Roll<L::End, J>>,
     questions: &QuestionDesk,
     link: L,
 ) -> Result<String, AllocError> {
     let mut link = link;
     let mut endings = Vec::new(alloc);
     if publisher.commit() <= keeper.desk().commit() {
-        endings.push(serve_admin(rt, alloc, keeper, publisher, roll, questions, &mut link))?;
+        endings.push(serve_admin(
+            rt, alloc, keeper, publisher, roll, questions, hangs, &mut link,
+        ))?;
     }
     first_text(alloc, &endings)
 }
 
 // Two clients side by side.
-fn clients<S: Place + Send + Drop, L: Link + Send + Drop, R: Threads + Wait + Sync + Clock>(
+fn clients<
+    S: Place<J> + Send + Drop,
+    L: Link + Send + Drop,
+    R: Threads + Wait + Sync + Clock,
+    J: Naming + Send + Sync,
+>(
     rt: &R,
     alloc: Global,
     first: S,
     second: S,
-    roll: &Mutex<Roll<L::End>>,
+    roll: &Mutex<Roll<L::End, J>>,
     questions: &QuestionDesk,
     x: L,
     y: L,
@@ -100,12 +108,17 @@ where
 }
 
 // The clients and the agent side by side.
-fn served<S: Place + Send + Drop, L: Link + Send + Drop, R: Threads + Wait + Sync + Clock>(
+fn served<
+    S: Place<J> + Send + Drop,
+    L: Link + Send + Drop,
+    R: Threads + Wait + Sync + Clock,
+    J: Naming + Send + Sync,
+>(
     rt: &R,
     alloc: Global,
     first: S,
     second: S,
-    roll: &Mutex<Roll<L::End>>,
+    roll: &Mutex<Roll<L::End, J>>,
     questions: &QuestionDesk,
     x: L,
     y: L,
@@ -125,12 +138,17 @@ where
 }
 
 // Those who are served, and those who speak with them.
-fn crowd<S: Place + Send + Drop, L: Link + Send + Drop, R: Threads + Wait + Sync + Clock>(
+fn crowd<
+    S: Place<J> + Send + Drop,
+    L: Link + Send + Drop,
+    R: Threads + Wait + Sync + Clock,
+    J: Naming + Send + Sync,
+>(
     rt: &R,
     alloc: Global,
     first: S,
     second: S,
-    roll: &Mutex<Roll<L::End>>,
+    roll: &Mutex<Roll<L::End, J>>,
     questions: &QuestionDesk,
     x: L,
     y: L,
@@ -155,11 +173,11 @@ where
 /// Serves the connections `x` and `y` of clients, `a` of an agent and `m` of an administrator, each on a thread of its
 /// own, while those who speak do the steps. What was read, and how each ended.
 pub fn all<
-    S: Place + Send + Drop,
+    S: Place<J> + Send + Drop,
     L: Link + Send + Drop,
     D: Disk,
     R: Threads + Wait + Sync + Clock,
-    J: Naming,
+    J: Naming + Send + Sync,
 >(
     rt: &R,
     alloc: Global,
@@ -167,7 +185,8 @@ pub fn all<
     second: S,
     keeper: &mut Keeper<'_, D>,
     publisher: &mut Publisher<J>,
-    roll: &Mutex<Roll<L::End>>,
+    hangs: &mut Front<Event, Events<J>>,
+    roll: &Mutex<Roll<L::End, J>>,
     questions: &QuestionDesk,
     x: L,
     y: L,
@@ -184,7 +203,7 @@ where
         || crowd(
             rt, alloc, first, second, roll, questions, x, y, a, links, steps,
         ),
-        || administrator(rt, alloc, keeper, publisher, roll, questions, m),
+        || administrator(rt, alloc, keeper, publisher, hangs, roll, questions, m),
     );
     let told = told?;
     let ended = ended?;

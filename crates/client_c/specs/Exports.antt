@@ -1,5 +1,6 @@
 -- What the exports do.
-use Rattle.std.specs.Prelude.{◌≡◌, ◌⊎◌, ℕ, ◌-◌, nat_lt, nat_le, ◌&&◌, Bool, true, false, if◌then◌else◌, List, [], length, min, take, drop}
+use Rattle.std.specs.Prelude.{◌≡◌, ◌⊎◌, ℕ, ◌-◌, nat_lt, nat_le, ◌&&◌, Bool, true, false, if◌then◌else◌, List, []}
+use Rattle.std.specs.Prelude.{length, min, take, drop}
 use Rattle.std.specs.Prelude.{Option, Some, None, is_some}
 use Rattle.cynara_keys.specs.Name.{name_fault}
 use Rattle.cynara_keys.specs.Key.{Question}
@@ -90,7 +91,8 @@ abbrev pub IsOther : ℕ → Said → Said → Machine → Machine → Type 0
 IsOther code said after old new = IsSilent 65 code said after × (new ≡ old)
 
 abbrev pub asks_client : List ℕ → Question → Bool → Step → Machine → Machine → Type 0
-asks_client session question simple answer (Client old) (Client new) = client.Asks session question simple answer old new
+asks_client session question simple answer (Client old) (Client new) = client.Asks session question simple answer old
+    new
 asks_client session question simple answer old new = ⊥
 
 abbrev pub asks_if : Option ℕ → (Step → Machine → Machine → Type 0) → ℕ → Said → Said → Machine → Machine → Type 0
@@ -157,7 +159,8 @@ sends_admin operation fields answer (Admin old) (Admin new) = admin.Sends operat
 sends_admin operation fields answer old new = ⊥
 
 abbrev pub SendsOne : ℕ → List ℕ → ℕ → Said → Said → Machine → Machine → Type 0
-SendsOne operation fields code said after (Admin old) new = Did (sends_admin operation fields) code said after (Admin old) new
+SendsOne operation fields code said after (Admin old) new = Did (sends_admin operation fields) code said after
+    (Admin old) new
 SendsOne operation fields code said after old new = IsOther code said after old new
 
 abbrev pub Sends : ℕ → List ℕ → Option Machine → Option Machine → ℕ → Said → Said → Type 0

@@ -7,7 +7,8 @@ use Rattle.cynara_keys.specs.Field.{field_text}
 use Rattle.cynara_keys.specs.PolicyResult.{Ruling, allow}
 use Rattle.cynara_keys.specs.declared.keys.Policy.{Policy}
 use Rattle.cynara_keys.specs.declared.limits.Counted.{Counted}
-use Rattle.cynara_keys.specs.declared.limits.Counted.TheVariants.{Commits, Users, Packages, Installs, Grants, Buckets, Policies}
+use Rattle.cynara_keys.specs.declared.limits.Counted.TheVariants.{Commits, Users, Packages, Installs, Grants, Buckets}
+use Rattle.cynara_keys.specs.declared.limits.Counted.TheVariants.{Policies}
 use Rattle.desk_state.specs.declared.refusals.Refusal.{Refusal}
 use Rattle.desk_state.specs.declared.refusals.Refusal.TheVariants as refusal
 use Rattle.wire_fields.specs.Operation.{number_of}

@@ -36,7 +36,8 @@ pub(crate) fn ask(
     simple: bool,
     said: &mut Said,
 ) -> u8
-    ensures { exports.AsksOne session.now (record { client = client.now; user = user.now; privilege = privilege.now }) simple
+    ensures { exports.AsksOne session.now (record { client = client.now; user = user.now; privilege = privilege.now })
+        simple
         result said.old said.new machine.old machine.new }
 {
     let Machine::Client(asker) = machine else {

@@ -19,7 +19,8 @@ pub struct Handle {
 /// Takes the machine.
 pub fn taken(alloc: Global, handle: &mut Handle) -> Option<Box<Machine>>
     ensures left { handle.new.held.value ≡ None }
-    ensures taken { MatchOption result (handle.old.held.value ≡ None) (λ boxed. handle.old.held.value ≡ Some boxed.value) }
+    ensures taken { MatchOption result (handle.old.held.value ≡ None)
+        (λ boxed. handle.old.held.value ≡ Some boxed.value) }
 {
     if !handle.is_there {
         return None;

@@ -1,7 +1,8 @@
-//! The machines of `client_core` for C: a client, an administrator or an agent behind a handle, in memory of the C library.
+//! The machines of `client_core` for C: a client, an administrator or an agent behind a handle, in memory of the C
+//! library.
 //!
-//! A handle of all zeros holds none. No call has a precondition but those of its types: what is used wrongly is answered by
-//! a code, and changes nothing. There is no state but what the handles hold.
+//! A handle of all zeros holds none. No call has a precondition but those of its types: what is used wrongly is
+//! answered by a code, and changes nothing. There is no state but what the handles hold.
 #![tactic(auto)]
 
 mod calls;
@@ -138,8 +139,8 @@ pub extern "C" fn privilege_core_leave(alloc: Global, handle: &mut Handle) -> u8
     IDLE
 }
 
-/// Copies bytes of the frame from this place on, as many as there are and the room has, and returns how many. 0 where none
-/// is there, or the handle holds none.
+/// Copies bytes of the frame from this place on, as many as there are and the room has, and returns how many. 0 where
+/// none is there, or the handle holds none.
 #[unsafe(no_mangle)]
 pub extern "C" fn privilege_core_frame(
     alloc: Global,
@@ -184,7 +185,8 @@ pub extern "C" fn privilege_core_client_ask(
     simple: bool,
     said: &mut Said,
 ) -> u8
-    ensures { exports.Asks session.now (record { client = client.now; user = user.now; privilege = privilege.now }) simple
+    ensures { exports.Asks session.now (record { client = client.now; user = user.now; privilege = privilege.now })
+        simple
         handle.old.held.value handle.new.held.value result said.old said.new }
 {
     let Some(mut boxed) = taken(alloc, handle) else {
@@ -197,9 +199,9 @@ pub extern "C" fn privilege_core_client_ask(
     code
 }
 
-/// A client's caller looked, and the connection stands: is what is kept under this text the answer, a session, a client, a
-/// user and a privilege with a space between each two? 5 with what it says; 0 where nothing is kept: then the client is to
-/// be asked.
+/// A client's caller looked, and the connection stands: is what is kept under this text the answer, a session, a
+/// client, a user and a privilege with a space between each two? 5 with what it says; 0 where nothing is kept: then the
+/// client is to be asked.
 #[unsafe(no_mangle)]
 pub extern "C" fn privilege_core_client_recall(
     alloc: Global,

@@ -1,5 +1,6 @@
 -- A frame is sent and answered over a link, or over a new one where that fails.
-use Rattle.std.specs.Prelude.{◌≡◌, ◌<◌, ℕ, zero, suc, Bool, true, false, ◌||◌, List, [], ◌∷◌, ◌++◌, length, Option, Some, None, is_some, not, Result, Ok, Err}
+use Rattle.std.specs.Prelude.{◌≡◌, ◌<◌, ℕ, zero, suc, Bool, true, false, ◌||◌, List, [], ◌∷◌, ◌++◌, length, Option}
+use Rattle.std.specs.Prelude.{Some, None, is_some, not, Result, Ok, Err}
 use Rattle.desk_ports.specs.Faults.{next_count}
 use Rattle.link_ports.specs.Traffic.{Traffic, IsSilent}
 use Rattle.link_ports.specs.LinkMarks.{LinkMarks, fresh_marks}
@@ -47,13 +48,15 @@ dials_in had zero = zero
 dials_in true (suc n) = n
 dials_in false (suc n) = suc n
 
--- The link as it was before the frame: the one that was there, or else one that was dialled. Of the latter all is said that a
--- dialler promises: nothing went over it, no call of it has failed, and it bears no mark.
+-- The link as it was before the frame: the one that was there, or else one that was dialled. Of the latter all is said
+-- that a dialler promises: nothing went over it, no call of it has failed, and it bears no mark.
 abbrev pub IsBase : {L : Type 0} → (L → ℕ) → (L → LinkMarks) → (L → Option Traffic) → Option L → L → Type 0
 IsBase link_faults marks traffic (Some link) base = base ≡ link
-IsBase link_faults marks traffic None base = (marks base ≡ fresh_marks) × (link_faults base ≡ 0) × IsSilent (traffic base)
+IsBase link_faults marks traffic None base = (marks base ≡ fresh_marks) × (link_faults base ≡ 0)
+    × IsSilent (traffic base)
 
-module _ {L : Type 0} (link_faults : L → ℕ) (marks : L → LinkMarks) (traffic : L → Option Traffic) (frame : List ℕ) where
+module _ {L : Type 0} (link_faults : L → ℕ) (marks : L → LinkMarks) (traffic : L → Option Traffic)
+    (frame : List ℕ) where
   -- the frame went out on a link, and this came over it
   pub record CameOver (entry : Option L) (result : Result Framed Broken) (link : L) : Type 0 where
     pub base : L
@@ -61,8 +64,8 @@ module _ {L : Type 0} (link_faults : L → ℕ) (marks : L → LinkMarks) (traff
     pub exchanged : Exchanges frame result (traffic base) (traffic link)
     pub ends : (marks link).ends ≡ 0
 
-  -- Tries that were lost, one after the other: over the link that was there no whole reply came, nor over those that were
-  -- dialled then.
+  -- Tries that were lost, one after the other: over the link that was there no whole reply came, nor over those that
+  -- were dialled then.
   abbrev pub AreLost : Option L → List (Option L) → Type 0
   AreLost entry [] = Unit {0}
   AreLost entry (None ∷ lost) = (entry ≡ None) × AreLost None lost
@@ -75,7 +78,8 @@ module _ {L : Type 0} (link_faults : L → ℕ) (marks : L → LinkMarks) (traff
       pub given : Appends (links_of lost) (given_back old) (given_back new)
 
     -- the reply came over this link, which stays out
-    pub record Replies (entry : Option L) (lost : List (Option L)) (link : L) (is_new : Bool) (framed : Framed) (old new : N) : Type 0 where
+    pub record Replies (entry : Option L) (lost : List (Option L)) (link : L) (is_new : Bool) (framed : Framed)
+        (old new : N) : Type 0 where
       pub came : CameOver (link_behind entry lost) (Ok framed) link
       pub new_link : is_new ≡ not (is_some (link_behind entry lost))
       pub loses : Loses lost old new
@@ -84,11 +88,12 @@ module _ {L : Type 0} (link_faults : L → ℕ) (marks : L → LinkMarks) (traff
     pub record RepliesWrong (entry : Option L) (lost : List (Option L)) (wrong : Broken) (old new : N) : Type 0 where
       pub link : L
       pub came : CameOver (link_behind entry lost) (Err wrong) link
-      pub counted_each : faults new ≡ count_after_give_back (marks link) (link_faults link) (counted (length lost) (faults old))
+      pub counted_each : faults new ≡ count_after_give_back (marks link) (link_faults link)
+          (counted (length lost) (faults old))
       pub given : Appends (links_of lost ++ link ∷ []) (given_back old) (given_back new)
 
-    -- What came of it behind the tries that were lost, which are fewer than there were, or as many. Memory runs out at a dial alone,
-    -- where no link is there.
+    -- What came of it behind the tries that were lost, which are fewer than there were, or as many. Memory runs out at
+    -- a dial alone, where no link is there.
     abbrev pub ComesOf : ℕ → Bool → Option L → List (Option L) → Outcome L → N → N → Type 0
     ComesOf tries before entry lost (outcome.Replied link is_new framed) old new =
         (length lost < tries) × Replies entry lost link is_new framed old new
@@ -97,10 +102,11 @@ module _ {L : Type 0} (link_faults : L → ℕ) (marks : L → LinkMarks) (traff
     ComesOf tries before entry lost (outcome.Unavailable is_tried) old new =
         (length lost ≡ tries) × (is_tried ≡ (before || has_link lost)) × Loses lost old new
     ComesOf tries before entry lost (outcome.Memory error is_tried) old new =
-        (length lost < tries) × (link_behind entry lost ≡ None) × (is_tried ≡ (before || has_link lost)) × Loses lost old new
+        (length lost < tries) × (link_behind entry lost ≡ None) × (is_tried ≡ (before || has_link lost))
+            × Loses lost old new
 
-    -- The frame was to be sent with so many tries, on the link that was there, if one was, and this came of it. Whether it was
-    -- tried to be sent before.
+    -- The frame was to be sent with so many tries, on the link that was there, if one was, and this came of it. Whether
+    -- it was tried to be sent before.
     pub record Asks (tries : ℕ) (before : Bool) (entry : Option L) (result : Outcome L) (old new : N) : Type 0 where
       pub lost : List (Option L)
       pub each : AreLost entry lost

@@ -9,7 +9,8 @@ abbrev pub Appends : {A : Type 0} → List A → Option (List A) → Option (Lis
 Appends {A} values old new =
     IfTold new (λ after. (before : List A) × (old ≡ Some before) × (after ≡ before ++ values))
 
-module _ {N L : Type 0} (faults dials : N → ℕ) (given_back : N → Option (List L)) (link_faults : L → ℕ) (marks : L → LinkMarks) where
+module _ {N L : Type 0} (faults dials : N → ℕ) (given_back : N → Option (List L)) (link_faults : L → ℕ)
+    (marks : L → LinkMarks) where
   -- what giving it back does to the dialler
   pub record GivesBack (link : L) (old new : N) : Type 0 where
     pub given : AppendsTold (given_back old) link (given_back new)

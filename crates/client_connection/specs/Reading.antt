@@ -1,5 +1,6 @@
 -- One frame is read from a link.
-use Rattle.std.specs.Prelude.{◌≡◌, ℕ, ◌+◌, ◌≤◌, nat_lt, if◌then◌else◌, true, List, [], ◌∷◌, length, Option, Some, None, Result, Ok, Err}
+use Rattle.std.specs.Prelude.{◌≡◌, ℕ, ◌+◌, ◌≤◌, nat_lt, if◌then◌else◌, true, List, [], ◌∷◌, length, Option, Some, None}
+use Rattle.std.specs.Prelude.{Result, Ok, Err}
 use Rattle.link_ports.specs.Told.{IfTold}
 use Rattle.link_ports.specs.Traffic.{Traffic, with_received}
 use Rattle.link_ports.specs.LinkMarks.{LinkMarks}
@@ -21,8 +22,8 @@ abbrev pub size_by : ℕ → Option WireRefusal → ℕ
 size_by n (Some fault) = 4
 size_by n None = n + 4
 
--- How many bytes the frame that these begin has, as they tell: its length has four, and as long as that is not there no more is
--- known.
+-- How many bytes the frame that these begin has, as they tell: its length has four, and as long as that is not there no
+-- more is known.
 abbrev pub size_of : List ℕ → ℕ
 size_of bytes = if nat_lt (length bytes) 4 then 4 else size_by (length_of bytes) (length_fault (length_of bytes))
 
@@ -31,8 +32,8 @@ pub record IsWrong (heard : Heard) (bytes : List ℕ) (refusal : WireRefusal) : 
   pub begins : BeginsWrong heard bytes refusal
   pub within : length bytes ≤ size_of bytes
 
--- The bytes are what was read, and none is past the frame: the one frame of the message, one that is wrong, or less than a
--- frame.
+-- The bytes are what was read, and none is past the frame: the one frame of the message, one that is wrong, or less
+-- than a frame.
 abbrev pub IsRead : Heard → Result Framed Broken → List ℕ → Type 0
 IsRead heard (Ok framed) bytes = Hears heard bytes (framed ∷ []) []
 IsRead heard (Err (Wrong refusal)) bytes = IsWrong heard bytes refusal

@@ -20,8 +20,8 @@ pub fn send_frame<L: Link>(link: &mut L, frame: &[u8]) -> bool
     }
 }
 
-/// Takes bytes from the link, as many as there are and no more than the room has places, and says how many: none where a
-/// call of the link failed or its input has ended. It may wait.
+/// Takes bytes from the link, as many as there are and no more than the room has places, and says how many: none where
+/// a call of the link failed or its input has ended. It may wait.
 pub fn receive_some<L: Link>(link: &mut L, room: &mut [u8]) -> usize
     requires { 0 < length room.old }
     ensures within { result ≤ length room.new }

@@ -1,5 +1,5 @@
-//! The connection of a client: what goes over it, and how it ends, in words that the clients' contracts share; and the two
-//! calls on a link by which a frame goes out and a reply comes back piece by piece.
+//! The connection of a client: what goes over it, and how it ends, in words that the clients' contracts share; and the
+//! two calls on a link by which a frame goes out and a reply comes back piece by piece.
 #![tactic(auto)]
 
 mod asking;

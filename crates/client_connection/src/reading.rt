@@ -24,9 +24,9 @@ pub(crate) enum Piece {
     Lost,
 }
 
-/// Takes one frame from the link by a feeder that holds nothing, and not a byte past it. `Lost` where a call of the link
-/// failed or its input ended before the frame was whole. Of a wrong frame no more is taken than its length says, and behind a
-/// wrong length nothing. It may wait.
+/// Takes one frame from the link by a feeder that holds nothing, and not a byte past it. `Lost` where a call of the
+/// link failed or its input ended before the frame was whole. Of a wrong frame no more is taken than its length says,
+/// and behind a wrong length nothing. It may wait.
 pub fn read_frame<L: Link>(link: &mut L, feeder: &mut Feeder) -> Result<Framed, Broken>
     requires { IsUnused feeder.old }
     ensures received { Receives feeder.old.heard result (L.traffic link.old) (L.traffic link.new) }

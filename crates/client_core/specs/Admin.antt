@@ -109,8 +109,8 @@ Sends operation fields answer old new = sends_at old.stage operation fields answ
 
 -- ---- a message is to be sent, which is given by itself
 
--- Its frame is there, no longer than a frame may be; or no memory was found for it, and the connection is given up; or it is
--- too long, and this is its length.
+-- Its frame is there, no longer than a frame may be; or no memory was found for it, and the connection is given up; or
+-- it is too long, and this is its length.
 abbrev pub spells : Message → Result Step ℕ → Admin → Admin → Type 0
 spells message (Ok answer) old new =
     ((length (body (with_sequence old.sequence message)) ≤ most_length)

@@ -116,9 +116,10 @@ AreRows wanted sequence before [] = Unit {0}
 AreRows wanted sequence before (framed ∷ rows) =
     (next_of wanted sequence before framed ≡ next.More) × AreRows wanted sequence (suc before) rows
 
--- The bytes that came since the frame was to be sent are the frames of these replies and no more; they are all that were
--- given; each before this one is a row, with the number of the frame that was sent; and this one follows so.
-pub record IsReply (call : Call) (calls : List Call) (before : Admin) (message : Message) (follows : Next) : Type 0 where
+-- The bytes that came since the frame was to be sent are the frames of these replies and no more; they are all that
+-- were given; each before this one is a row, with the number of the frame that was sent; and this one follows so.
+pub record IsReply (call : Call) (calls : List Call) (before : Admin) (message : Message)
+    (follows : Next) : Type 0 where
   pub request : Framed
   pub sent : IsRequest (message_in calls) before.frame request
   pub rows : List Framed

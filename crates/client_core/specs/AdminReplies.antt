@@ -67,8 +67,8 @@ is_last Command rows message.StoreFault = true
 is_last Command rows (message.StoreDamaged file line) = true
 is_last wanted rows other = false
 
--- What follows from a reply behind so many rows: another sequence number is found first, and then an operation that is no
--- answer here.
+-- What follows from a reply behind so many rows: another sequence number is found first, and then an operation that is
+-- no answer here.
 abbrev pub next_of : Wanted → ℕ → ℕ → Framed → Next
 next_of wanted sequence rows framed =
     if framed.sequence == sequence then

@@ -1,5 +1,6 @@
 -- An agent's side of a connection: what it keeps, and what its calls do and answer.
-use Rattle.std.specs.Prelude.{◌≡◌, ◌⊎◌, ◌==◌, ℕ, Bool, true, false, if◌then◌else◌, List, [], ◌∷◌, ◌++◌, length, Option, Some, None}
+use Rattle.std.specs.Prelude.{◌≡◌, ◌⊎◌, ◌==◌, ℕ, Bool, true, false, if◌then◌else◌, List, [], ◌∷◌, ◌++◌, length, Option}
+use Rattle.std.specs.Prelude.{Some, None}
 use Rattle.std.specs.declared.alloc.AllocError.{AllocError}
 use Rattle.cynara_keys.specs.declared.results.Kind.{Kind}
 use Rattle.wire_fields.specs.Operation.{number_of}
@@ -8,7 +9,8 @@ use Rattle.wire_reading.specs.Frame.{spelling, with_sequence}
 use Rattle.wire_reading.specs.Stream.{wanted}
 use Rattle.wire_fields.specs.declared.messages.Framed.{Framed}
 use Rattle.wire_fields.specs.declared.messages.Message.{Message}
-use Rattle.wire_fields.specs.declared.messages.Message.TheVariants.{Register, AgentAnswer, Registered, KindTaken, AgentQuestion, AgentWithdrawn, UnknownNumber}
+use Rattle.wire_fields.specs.declared.messages.Message.TheVariants.{Register, AgentAnswer, Registered, KindTaken}
+use Rattle.wire_fields.specs.declared.messages.Message.TheVariants.{AgentQuestion, AgentWithdrawn, UnknownNumber}
 use Rattle.wire_fields.specs.declared.operations.Heard.TheVariants.{AgentReplies}
 use Rattle.client_core.specs.Listening.{Listening, unheard, is_fit}
 use Rattle.client_core.specs.Hearing.{HearsPiece, fault_by}
@@ -37,7 +39,8 @@ cut agent = record agent { stage = stage.Dialling }
 abbrev pub IsNotNow : Step → Agent → Agent → Type 0
 IsNotNow answer old new = (answer ≡ step.NotNow) × (new ≡ old)
 
--- The frame of the message is there, and it is to be sent; or no memory was found for it, and the connection is given up.
+-- The frame of the message is there, and it is to be sent; or no memory was found for it, and the connection is given
+-- up.
 abbrev pub Spells : ℕ → Message → AgentStage → Step → Agent → Agent → Type 0
 Spells sequence message stage answer old new =
     ((answer ≡ step.Send) × (new ≡ record old { frame = spelling (with_sequence sequence message); stage = stage }))
@@ -116,7 +119,8 @@ begins Strays message answer old new = IsMisplaced message answer old new
 abbrev pub Begins : Message → Step → Agent → Agent → Type 0
 Begins message answer old new = begins (first_of message) message answer old new
 
--- What a further message says: it asks the question of a number, or withdraws it, or it says that nobody waited for an answer.
+-- What a further message says: it asks the question of a number, or withdraws it, or it says that nobody waited for an
+-- answer.
 pub data Turn : Type 0 where
   Asks : ℕ → Turn
   Withdraws : ℕ → Turn

@@ -55,7 +55,8 @@ abbrev pub open_by_dial : Step → Option ℕ → Option ℕ
 open_by_dial step.NotNow before = before
 open_by_dial answer before = None
 
--- the number of the question that was asked last on the connection that stands, and that was neither answered nor withdrawn since
+-- the number of the question that was asked last on the connection that stands, and that was neither answered nor
+-- withdrawn since
 abbrev pub open_in : List Call → Option ℕ
 open_in [] = None
 open_in (Dials answer ∷ calls) = open_by_dial answer (open_in calls)

@@ -1,5 +1,6 @@
 -- What the calls of a client do and answer.
-use Rattle.std.specs.Prelude.{◌≡◌, ◌⊎◌, ℕ, ◌-◌, nat_le, nat_lt, ◌==◌, ◌||◌, Bool, true, false, if◌then◌else◌, MatchBool, List, [], ◌∷◌, ◌++◌, length, max}
+use Rattle.std.specs.Prelude.{◌≡◌, ◌⊎◌, ℕ, ◌-◌, nat_le, nat_lt, ◌==◌, ◌||◌, Bool, true, false, if◌then◌else◌, MatchBool}
+use Rattle.std.specs.Prelude.{List, [], ◌∷◌, ◌++◌, length, max}
 use Rattle.std.specs.Prelude.{Option, Some, None}
 use Rattle.std.specs.declared.alloc.AllocError.{AllocError}
 use Rattle.bucket_eval.specs.declared.answers.Verdict.{Verdict}
@@ -11,7 +12,8 @@ use Rattle.wire_fields.specs.Message.{operation}
 use Rattle.wire_reading.specs.Stream.{Hears, BeginsWrong, IsOpen, wanted}
 use Rattle.wire_fields.specs.declared.messages.Framed.{Framed}
 use Rattle.wire_fields.specs.declared.messages.Message.{Message}
-use Rattle.wire_fields.specs.declared.messages.Message.TheVariants.{Judged, FromAgent, NotResolved, NoAgent, AgentGone, AgentFull}
+use Rattle.wire_fields.specs.declared.messages.Message.TheVariants.{Judged, FromAgent, NotResolved, NoAgent, AgentGone}
+use Rattle.wire_fields.specs.declared.messages.Message.TheVariants.{AgentFull}
 use Rattle.wire_fields.specs.declared.operations.Heard.TheVariants.{Replies}
 use Rattle.client_core.specs.Listening.{Listening, is_fit}
 use Rattle.client_core.specs.Hearing.{HearsPiece, fault_by}
@@ -71,7 +73,8 @@ Asks session question simple answer old new = asks_at old.stage (first_try sessi
 abbrev pub finds : Option Verdict → Asking → Step → Client → Client → Type 0
 finds (Some verdict) asking answer old new =
     (answer ≡ step.Kept) × (new ≡ record old { cache = used (asked_by asking) old.cache; stage = stage.Idle })
-finds None asking answer old new = Spells asking step.Send (waiting asking) answer (record old { stage = stage.Idle }) new
+finds None asking answer old new = Spells asking step.Send (waiting asking) answer
+    (record old { stage = stage.Idle }) new
 
 abbrev pub Finds : Asking → Step → Client → Client → Type 0
 Finds asking answer old new = finds (answer_in (asked_by asking) old.cache) asking answer old new
@@ -105,7 +108,8 @@ Recalls true text old new =
     × ((mid : Client) × Asks asked.session asked.question false step.Look old mid × Looks true step.Kept mid new)
 Recalls false text old new =
     (new ≡ old)
-    × ((asked : Asked) → IsOfNames asked → text ≡ key_text asked → is_ready old ≡ true → answer_in asked old.cache ≡ None)
+    × ((asked : Asked) → IsOfNames asked → text ≡ key_text asked → is_ready old ≡ true
+        → answer_in asked old.cache ≡ None)
 
 -- the same for a question that is given by its names
 abbrev pub Reuses : Bool → Asked → Client → Client → Type 0
@@ -173,8 +177,8 @@ abbrev pub commit_fault : ℕ → Message → Option ℕ → Option Fault
 commit_fault told message None = Some (fault.Operation (number_of (operation message)))
 commit_fault told message (Some got) = if nat_lt got told then Some (fault.Older told got) else None
 
--- What is wrong with a reply: another sequence number is found first, then an operation that is no answer, and then a commit
--- below the one that the client was told of.
+-- What is wrong with a reply: another sequence number is found first, then an operation that is no answer, and then a
+-- commit below the one that the client was told of.
 abbrev pub fault_in : ℕ → ℕ → Framed → Option Fault
 fault_in sequence told framed =
     if framed.sequence == sequence then commit_fault told framed.message (commit_of framed.message)
@@ -190,8 +194,8 @@ is_kept None asked old new = new ≡ old
 is_kept (Some verdict) asked old new =
     MatchBool (is_agent verdict.answer.kind.0) (new ≡ old) ((new ≡ kept asked verdict old) ⊎ (new ≡ without asked old))
 
--- A verdict of the policies is kept, or the cache is without an entry for the question, for want of memory. One that an agent
--- has to give is not kept, nor is anything else.
+-- A verdict of the policies is kept, or the cache is without an entry for the question, for want of memory. One that an
+-- agent has to give is not kept, nor is anything else.
 abbrev pub IsKept : Asked → Message → Cache → Cache → Type 0
 IsKept asked message old new = is_kept (verdict_of message) asked old new
 

@@ -128,8 +128,8 @@ said_in (Leaves ∷ calls) = []
 
 -- ---- what follows
 
--- The caller just said that the connection is up. The verdict that was used last is the answer: the service gave it on this
--- connection, to this very question; it is no older than what the client was told, and no agent's.
+-- The caller just said that the connection is up. The verdict that was used last is the answer: the service gave it on
+-- this connection, to this very question; it is no older than what the client was told, and no agent's.
 pub record IsKeptAnswer (call : Call) (calls : List Call) (after : Client) : Type 0 where
   pub looked : call ≡ Looks true step.Kept
   pub verdict : Verdict
@@ -142,8 +142,9 @@ pub record IsKeptAnswer (call : Call) (calls : List Call) (after : Client) : Typ
   pub fresh : told_in calls ≤ verdict.commit
   pub policies : is_agent verdict.answer.kind.0 ≡ false
 
--- The bytes that came since the frame was to be sent are one frame, and nothing is behind it: a reply to a check, with the
--- sequence number of the frame that was sent, which is that of the question; and no older than what the client was told.
+-- The bytes that came since the frame was to be sent are one frame, and nothing is behind it: a reply to a check, with
+-- the sequence number of the frame that was sent, which is that of the question; and no older than what the client was
+-- told.
 pub record IsReply (call : Call) (calls : List Call) (client : Client) (message : Message) : Type 0 where
   pub bytes : List ℕ
   pub came : call ≡ Comes bytes (step.Reply message)

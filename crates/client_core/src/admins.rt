@@ -71,9 +71,9 @@ impl AdminMachine {
         }
     }
 
-    /// Takes a message, by the number of its operation and the bytes of its fields, as they stand in a frame. `Send` where a
-    /// connection is there, and else `Dial`. Refuses, in this order, `NotNow`, `TooLong`, and `Unfit` with the first fault
-    /// where the service would refuse the frame.
+    /// Takes a message, by the number of its operation and the bytes of its fields, as they stand in a frame. `Send`
+    /// where a connection is there, and else `Dial`. Refuses, in this order, `NotNow`, `TooLong`, and `Unfit` with the
+    /// first fault where the service would refuse the frame.
     pub fn send(&mut self, operation: u8, fields: &[u8]) -> Step
         ensures { does.Sends operation fields.now result self.old self.new }
     {
@@ -137,7 +137,8 @@ impl AdminMachine {
         }
     }
 
-    /// The connection ended, or could not be made. Nothing is known of whether a command that is under way was accepted.
+    /// The connection ended, or could not be made. Nothing is known of whether a command that is under way was
+    /// accepted.
     pub fn down(&mut self) -> Step
         ensures { does.Falls result self.old self.new }
     {
@@ -156,9 +157,9 @@ impl AdminMachine {
         self.stage = AdminStage::Idle;
     }
 
-    /// These bytes came: some, and no more than are wanted. `Wait` where the reply is not whole with them; `Row` with one
-    /// policy of a list, part of a policy state, or agent that is there; `Reply` with the last reply to the message; or
-    /// `Over`.
+    /// These bytes came: some, and no more than are wanted. `Wait` where the reply is not whole with them; `Row` with
+    /// one policy of a list, part of a policy state, or agent that is there; `Reply` with the last reply to the
+    /// message; or `Over`.
     pub fn came(&mut self, piece: &[u8]) -> Step
         ensures { does.Comes piece.now result self.old self.new }
     {

@@ -94,8 +94,8 @@ impl AgentMachine {
         self.stage = AgentStage::Dialling;
     }
 
-    /// Answers the question of this number. `WrongNumber` where it is not the one that was asked last, or was answered or
-    /// withdrawn.
+    /// Answers the question of this number. `WrongNumber` where it is not the one that was asked last, or was answered
+    /// or withdrawn.
     pub fn answer(&mut self, number: u32, allowed: bool) -> Step
         ensures { does.Answers number allowed result self.old self.new }
     {
@@ -115,10 +115,10 @@ impl AgentMachine {
         }
     }
 
-    /// These bytes came: some, and no more than are wanted. `Wait` where the message is not whole with them; `Reply` with the
-    /// message, which first says that the agent is registered or that the kind is taken, and then asks, or says that a
-    /// question is withdrawn, which is to be answered no more, or that a number is unknown; or `Over`. Where the kind is
-    /// taken the connection is to be closed.
+    /// These bytes came: some, and no more than are wanted. `Wait` where the message is not whole with them; `Reply`
+    /// with the message, which first says that the agent is registered or that the kind is taken, and then asks, or
+    /// says that a question is withdrawn, which is to be answered no more, or that a number is unknown; or `Over`.
+    /// Where the kind is taken the connection is to be closed.
     pub fn came(&mut self, piece: &[u8]) -> Step
         ensures { does.Comes piece.now result self.old self.new }
     {
@@ -167,7 +167,8 @@ impl AgentMachine {
 
     fn send_answer(&mut self, question: Open, allowed: bool, ear: Ear) -> Step
         requires { self.old.stage ≡ stage_is.Dialling }
-        ensures { does.Spells question.sequence (AgentAnswer question.number allowed) (stage_is.Listening None ear) result self.old self.new }
+        ensures { does.Spells question.sequence (AgentAnswer question.number allowed)
+            (stage_is.Listening None ear) result self.old self.new }
     {
         let message = Message::AgentAnswer {
             number: question.number,

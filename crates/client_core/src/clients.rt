@@ -98,8 +98,8 @@ impl ClientMachine {
         }
     }
 
-    /// Asks whether the use of a privilege is granted; with `simple` no agent is asked. `Look` where a connection is there,
-    /// and else `Dial`.
+    /// Asks whether the use of a privilege is granted; with `simple` no agent is asked. `Look` where a connection is
+    /// there, and else `Dial`.
     pub fn ask(&mut self, session: Name, question: Question, simple: bool) -> Step
         ensures { does.Asks session question simple result self.old self.new }
     {
@@ -120,9 +120,10 @@ impl ClientMachine {
         self.dial_first(asking)
     }
 
-    /// The caller just looked, and the connection is up: whether what is kept under this text is the answer. The text is a
-    /// session, a client, a user and a privilege, with a space between each two; one that is not made so has no answer. It
-    /// does what `ask` and then `looked` do where they come to `Kept`, and nothing else; takes no memory, copies nothing.
+    /// The caller just looked, and the connection is up: whether what is kept under this text is the answer. The text
+    /// is a session, a client, a user and a privilege, with a space between each two; one that is not made so has no
+    /// answer. It does what `ask` and then `looked` do where they come to `Kept`, and nothing else; takes no memory,
+    /// copies nothing.
     pub fn recall(&mut self, text: &[u8]) -> bool
         ensures { does.Recalls result text.now self.old self.new }
     {
@@ -152,16 +153,16 @@ impl ClientMachine {
         matches!(self.stage, Stage::Idle)
     }
 
-    /// The verdict that was kept or used last: behind `Kept`, and where `recall` found one, it is the answer. None where
-    /// nothing is kept.
+    /// The verdict that was kept or used last: behind `Kept`, and where `recall` found one, it is the answer. None
+    /// where nothing is kept.
     pub fn newest(&self) -> Option<&PackedVerdict>
         ensures { option_copied result ≡ newest self.now.cache }
     {
         self.cache.newest()
     }
 
-    /// The caller looked whether the connection is up. Where it is, a kept answer is `Kept`, and else the frame is to be
-    /// sent: `Send`. Where it is down, no entry is kept, and it counts as one that failed: `Dial`.
+    /// The caller looked whether the connection is up. Where it is, a kept answer is `Kept`, and else the frame is to
+    /// be sent: `Send`. Where it is down, no entry is kept, and it counts as one that failed: `Dial`.
     pub fn looked(&mut self, is_up: bool) -> Step
         ensures { does.Looks is_up result self.old self.new }
     {
@@ -190,8 +191,8 @@ impl ClientMachine {
         }
     }
 
-    /// The connection ended, or could not be made. No entry is kept. A question that is under way goes on by `Dial`, until
-    /// three dials or connections have failed: `Over` with `Unavailable`.
+    /// The connection ended, or could not be made. No entry is kept. A question that is under way goes on by `Dial`,
+    /// until three dials or connections have failed: `Over` with `Unavailable`.
     pub fn down(&mut self) -> Step
         ensures { does.Falls result self.old self.new }
     {
@@ -217,8 +218,8 @@ impl ClientMachine {
         self.forget();
     }
 
-    /// These bytes came: some, and no more than are wanted. `Wait` where the reply is not whole with them, and else `Reply`
-    /// with the answer or the refusal of the service, or `Over`.
+    /// These bytes came: some, and no more than are wanted. `Wait` where the reply is not whole with them, and else
+    /// `Reply` with the answer or the refusal of the service, or `Over`.
     pub fn came(&mut self, piece: &[u8]) -> Step
         ensures { does.Comes piece.now result self.old self.new }
     {

@@ -1,10 +1,10 @@
-//! The sides of a connection to the policy service, without the connection: a client, an administrator and an agent, each
-//! as a machine that its caller drives.
+//! The sides of a connection to the policy service, without the connection: a client, an administrator and an agent,
+//! each as a machine that its caller drives.
 //!
-//! A machine makes no system call. Its caller tells it what happened to the connection, and the machine answers what is to
-//! be done next: dial, look whether the connection is up, send a frame, receive so many bytes; or what the service said.
-//! So whoever has sockets, in whatever language, has the rules of this project's profile with them: which bytes are sent,
-//! which bytes are a reply, when a kept answer may be used, and what is forgotten when a connection ends.
+//! A machine makes no system call. Its caller tells it what happened to the connection, and the machine answers what is
+//! to be done next: dial, look whether the connection is up, send a frame, receive so many bytes; or what the service
+//! said. So whoever has sockets, in whatever language, has the rules of this project's profile with them: which bytes
+//! are sent, which bytes are a reply, when a kept answer may be used, and what is forgotten when a connection ends.
 #![tactic(auto)]
 
 mod admins;

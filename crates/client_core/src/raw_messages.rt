@@ -12,8 +12,8 @@ use wire_messages::{Framed, Heard, WireRefusal, decode};
 /// The most bytes that the fields of a message may have.
 pub(crate) const MOST_FIELDS: usize = 1_048_573;
 
-/// Puts a frame together of a sequence number, the number of an operation and its fields, in place of what the buffer held,
-/// and reads it as the service does.
+/// Puts a frame together of a sequence number, the number of an operation and its fields, in place of what the buffer
+/// held, and reads it as the service does.
 pub(crate) fn read_raw(
     alloc: Global,
     frame: &mut Bytes,
@@ -48,5 +48,6 @@ fn put_raw(frame: &mut Bytes, sequence: u16, operation: u8, fields: &[u8]) -> Re
 // Does nothing; its clause is what `decode` asks of a frame.
 fn length_is_that_of_the_rest(sequence: u16, operation: u8, fields: &[u8])
     requires { length fields.now ≤ 1048573 }
-    ensures { length (raw_frame sequence operation fields.now) ≡ length_of (raw_frame sequence operation fields.now) + 4 }
+    ensures { length (raw_frame sequence operation fields.now)
+        ≡ length_of (raw_frame sequence operation fields.now) + 4 }
 {}

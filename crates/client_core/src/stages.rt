@@ -41,8 +41,8 @@ pub(crate) fn is_tried(stage: &Stage) -> bool
     }
 }
 
-/// A message of an administrator that is under way: what answer it is to have, the sequence number of its frame, and how many
-/// rows have come.
+/// A message of an administrator that is under way: what answer it is to have, the sequence number of its frame, and
+/// how many rows have come.
 #[derive(Clone, Copy)]
 pub(crate) struct Exchange {
     pub wanted: Wanted,

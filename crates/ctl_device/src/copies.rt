@@ -14,14 +14,14 @@ pub enum CopyRefusal {
     Folder,
     /// It has neither a list of a store's files nor a guard.
     NoStore,
-    /// The file of this name is not as a commit leaves it, at the line of this number, 0 where the file as a whole is wrong or
-    /// absent.
+    /// The file of this name is not as a commit leaves it, at the line of this number, 0 where the file as a whole is
+    /// wrong or absent.
     Damaged { file: FileName, line: u32 },
     Memory(AllocError),
 }
 
-/// The policy state that a mount of the folder comes to: what a stop left undone is undone. That is done in memory, with the
-/// files that were read, and the folder stays as it is.
+/// The policy state that a mount of the folder comes to: what a stop left undone is undone. That is done in memory,
+/// with the files that were read, and the folder stays as it is.
 pub fn state_of_copy<D: Disk>(alloc: Global, disk: &mut D) -> Result<Desk, CopyRefusal>
     ensures kept { KeepsState (D.state disk.old) (D.state disk.new) }
 {

@@ -1,5 +1,6 @@
 -- What a check does and answers.
-use Rattle.std.specs.Prelude.{◌≡◌, ◌⊎◌, ℕ, Bool, true, false, if◌then◌else◌, List, Option, Some, None, Result, Ok, Err, MatchBool}
+use Rattle.std.specs.Prelude.{◌≡◌, ◌⊎◌, ℕ, Bool, true, false, if◌then◌else◌, List, Option, Some, None, Result, Ok, Err}
+use Rattle.std.specs.Prelude.{MatchBool}
 use Rattle.std.specs.declared.alloc.AllocError.{AllocError}
 use Rattle.link_ports.specs.Traffic.{Traffic}
 use Rattle.link_ports.specs.LinkMarks.{LinkMarks}
@@ -26,8 +27,8 @@ use Rattle.cynara_client.specs.declared.refusals.ClientRefusal.TheVariants as re
 abbrev pub frame_of : ℕ → Bool → Asked → List ℕ
 frame_of sequence simple asked = spelling (with_sequence sequence (asks simple asked.question))
 
--- A verdict of the policies is kept, or the cache is without an entry for want of memory. One that an agent has to give is
--- not kept.
+-- A verdict of the policies is kept, or the cache is without an entry for want of memory. One that an agent has to give
+-- is not kept.
 abbrev pub IsKept : Asked → Verdict → Cache → Cache → Type 0
 IsKept asked verdict old new =
     MatchBool (is_agent verdict.answer.kind.0) (new ≡ old) ((new ≡ kept asked verdict old) ⊎ (new ≡ without asked old))
@@ -68,7 +69,8 @@ module _ {L : Type 0} (link_faults : L → ℕ) (marks : L → LinkMarks) where
     -- What comes of what a reply says: a verdict is kept, and a refusal by the service changes nothing. A reply that is
     -- wrong or too old takes the link.
     abbrev pub Ends : Asked → Result Checked ClientRefusal → State N L → State N L → Type 0
-    Ends asked (Ok answer) old new = (new ≡ record old { cache = new.cache }) × IsKeptOf asked answer old.cache new.cache
+    Ends asked (Ok answer) old new = (new ≡ record old { cache = new.cache })
+        × IsKeptOf asked answer old.cache new.cache
     Ends asked (Err refused) old new = MatchBool (keeps_link refused) (new ≡ old) (Leaves old new)
 
     -- what comes of a frame that was to be sent and answered
@@ -84,7 +86,8 @@ module _ {L : Type 0} (link_faults : L → ℕ) (marks : L → LinkMarks) where
   module _ (traffic : L → Option Traffic) where
     module _ {N : Type 0} (faults dials : N → ℕ) (given_back : N → Option (List L)) where
       -- the question was to be sent, with so many tries
-      pub record Sends (asked : Asked) (simple : Bool) (tries : ℕ) (result : Result Checked ClientRefusal) (old new : State N L) : Type 0 where
+      pub record Sends (asked : Asked) (simple : Bool) (tries : ℕ) (result : Result Checked ClientRefusal)
+          (old new : State N L) : Type 0 where
         pub came_of : Outcome L
         pub dial : N
         pub asks : Asks link_faults marks traffic (frame_of old.sequence simple asked) faults dials given_back
@@ -101,9 +104,10 @@ module _ {L : Type 0} (link_faults : L → ℕ) (marks : L → LinkMarks) where
       Serves asked simple tries result old new = Sends asked simple tries result old new ⊎ FindsNoRoom result old new
 
     module _ (content : L → Option LinkContent) where
-      -- The link is up, and there is an entry that is not older than the commit that the client was told of: it is the answer,
-      -- nothing is sent, and it is the first entry from now on.
-      pub record Hits {N : Type 0} (asked : Asked) (result : Result Checked ClientRefusal) (old new : State N L) : Type 0 where
+      -- The link is up, and there is an entry that is not older than the commit that the client was told of: it is the
+      -- answer, nothing is sent, and it is the first entry from now on.
+      pub record Hits {N : Type 0} (asked : Asked) (result : Result Checked ClientRefusal)
+          (old new : State N L) : Type 0 where
         pub between : State N L
         pub verdict : Verdict
         pub up : FindsUp link_faults marks traffic content old between
@@ -112,16 +116,19 @@ module _ {L : Type 0} (link_faults : L → ℕ) (marks : L → LinkMarks) where
         pub now : new ≡ record between { cache = used asked between.cache }
 
       module _ {N : Type 0} (faults dials : N → ℕ) (given_back : N → Option (List L)) where
-        -- There is no link, so one is to be dialled; or it is up, and there is no entry; or it is down, and has cost one try.
+        -- There is no link, so one is to be dialled; or it is up, and there is no entry; or it is down, and has cost
+        -- one try.
         pub data Approaches (asked : Asked) (old between : State N L) (tries : ℕ) : Type 0 where
           without_link : old.link ≡ None → between ≡ old → tries ≡ 3 → Approaches asked old between tries
-          over_link : FindsUp link_faults marks traffic content old between → answer_in asked old.cache ≡ None → tries ≡ 3
+          over_link : FindsUp link_faults marks traffic content old between → answer_in asked old.cache ≡ None
+              → tries ≡ 3
               → Approaches asked old between tries
           past_link : FindsDown link_faults marks traffic content faults dials given_back old between → tries ≡ 2
               → Approaches asked old between tries
 
         -- no entry answers, and the service is asked
-        pub record AsksService (asked : Asked) (simple : Bool) (result : Result Checked ClientRefusal) (old new : State N L) : Type 0 where
+        pub record AsksService (asked : Asked) (simple : Bool) (result : Result Checked ClientRefusal)
+            (old new : State N L) : Type 0 where
           pub between : State N L
           pub tries : ℕ
           pub approached : Approaches asked old between tries

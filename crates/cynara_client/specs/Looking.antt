@@ -8,7 +8,8 @@ use Rattle.link_ports.specs.LinkContent.{LinkContent, with_call_made, LooksUp}
 use Rattle.client_connection.specs.Giving.{GivesBack}
 use Rattle.cynara_client.specs.State.{State, IsBare}
 
-module _ {L : Type 0} (link_faults : L → ℕ) (marks : L → LinkMarks) (traffic : L → Option Traffic) (content : L → Option LinkContent) where
+module _ {L : Type 0} (link_faults : L → ℕ) (marks : L → LinkMarks) (traffic : L → Option Traffic)
+    (content : L → Option LinkContent) where
   -- the link was asked once, and gave this answer
   pub record IsLooked (is_up : Bool) (before after : L) : Type 0 where
     pub answer : LooksUp is_up (content before) (link_faults before) (link_faults after)

@@ -12,8 +12,8 @@ use link_ports::Dial;
 use std::alloc::{AllocError, Global};
 use std::marker::Model;
 
-/// What a client keeps between its checks: its link, if there is one, its answers, and the number of the next frame. The
-/// dialler is lent to each call, always the same one.
+/// What a client keeps between its checks: its link, if there is one, its answers, and the number of the next frame.
+/// The dialler is lent to each call, always the same one.
 #[derive(Drop)]
 pub struct ClientLink<N: Dial> {
     link: Option<N::Link>,
@@ -35,7 +35,8 @@ impl<N: Dial> Model for ClientLink<N> {
     } };
 
     // Nothing is under way, and nobody but the service can hang up the link.
-    ghost invariant = { λ kept. IsAtRest kept.link kept.machine × ForSome kept.link (λ link. (N.Link.marks link).ends ≡ 0) };
+    ghost invariant = { λ kept. IsAtRest kept.link kept.machine
+        × ForSome kept.link (λ link. (N.Link.marks link).ends ≡ 0) };
 }
 
 impl<N: Dial> ClientLink<N> {
@@ -54,7 +55,8 @@ impl<N: Dial> ClientLink<N> {
 
     /// The commit was acknowledged: no answer is below it from now on.
     pub fn tell(&mut self, commit: u64)
-        ensures { self.new ≡ record self.old { cache = record self.old.cache { told = max self.old.cache.told commit } } }
+        ensures { self.new ≡ record self.old { cache = record self.old.cache
+            { told = max self.old.cache.told commit } } }
     {
         self.machine.tell(commit);
     }

@@ -32,8 +32,8 @@ pub(crate) struct Ended<L: Drop> {
     pub answer: Result<Checked, ClientRefusal>,
 }
 
-/// Does what the machine says until the question is answered: over this link, or by a dial. At most three tries are left. It
-/// may wait.
+/// Does what the machine says until the question is answered: over this link, or by a dial. At most three tries are
+/// left. It may wait.
 pub(crate) fn go<N: Dial>(
     machine: &mut ClientMachine,
     dial: &mut N,

@@ -8,7 +8,8 @@ use Rattle.wire_fields.specs.declared.operations.Heard.{Heard}
 use Rattle.wire_fields.specs.declared.refusals.WireRefusal.{WireRefusal}
 use Rattle.wire_fields.specs.declared.refusals.WireRefusal.TheVariants.{Memory as NoMemory}
 use Rattle.door_frames.specs.declared.endings.Ended.{Ended}
-use Rattle.door_frames.specs.declared.endings.Ended.TheVariants.{Closed, Cut, Hung, LinkFault, BadFrame, Stopped, Memory, Strayed}
+use Rattle.door_frames.specs.declared.endings.Ended.TheVariants.{Closed, Cut, Hung, LinkFault, BadFrame, Stopped}
+use Rattle.door_frames.specs.declared.endings.Ended.TheVariants.{Memory, Strayed}
 
 -- the refusal speaks of the bytes
 abbrev pub IsOfBytes : WireRefusal → Type 0
@@ -26,8 +27,8 @@ EndsInput partial Closed = partial ≡ []
 EndsInput partial (Cut count) = (count ≡ length partial) × (0 < count)
 EndsInput partial other = ⊥
 
--- Why no further frame comes: the input has ended, between frames or within one; a call of the link failed; or the feeder
--- has failed, for the bytes or for want of memory. Marks and count are those of the link then.
+-- Why no further frame comes: the input has ended, between frames or within one; a call of the link failed; or the
+-- feeder has failed, for the bytes or for want of memory. Marks and count are those of the link then.
 abbrev pub EndsReading : Ended → Feeding → LinkMarks → ℕ → ℕ → Type 0
 EndsReading Closed feeder marks before after =
     (feeder.failed ≡ None) × (feeder.partial ≡ []) × (marks.has_ended ≡ true) × (after ≡ before)
@@ -45,8 +46,8 @@ EndsSending Memory before after = after ≡ before
 EndsSending LinkFault before after = after ≡ next_count before
 EndsSending other before after = ⊥
 
--- The bytes that were received, of which these frames were answered, are such where a connection ended so: between frames,
--- within a frame and at a wrong frame each whole frame before was answered; else some may not be.
+-- The bytes that were received, of which these frames were answered, are such where a connection ended so: between
+-- frames, within a frame and at a wrong frame each whole frame before was answered; else some may not be.
 abbrev pub EndsBytes : Heard → List ℕ → List Framed → Ended → Type 0
 EndsBytes heard bytes answered Closed = Hears heard bytes answered []
 EndsBytes heard bytes answered (Cut count) =

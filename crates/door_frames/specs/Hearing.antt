@@ -4,8 +4,8 @@ use Rattle.wire_reading.specs.Stream.{Feeding, Hears, BeginsWrong, IsOpen}
 use Rattle.wire_fields.specs.declared.messages.Framed.{Framed}
 use Rattle.wire_fields.specs.declared.refusals.WireRefusal.{WireRefusal}
 
--- A feeder that was fed these bytes, of which these frames were taken: the frames that wait come behind them, and what is
--- behind those is less than a frame, or wrong where the feeder has failed.
+-- A feeder that was fed these bytes, of which these frames were taken: the frames that wait come behind them, and what
+-- is behind those is less than a frame, or wrong where the feeder has failed.
 pub record HasHeard (bytes : List ℕ) (taken : List Framed) (feeder : Feeding) : Type 0 where
   pub behind : List ℕ
   pub heard : Hears feeder.heard bytes (taken ++ feeder.waiting) behind
@@ -24,7 +24,8 @@ HearsMore more old new =
 -- Whatever it had heard, it heard these bytes more, and this frame was taken.
 abbrev pub HandsOut : List ℕ → Framed → Feeding → Feeding → Type 0
 HandsOut more framed old new =
-    (bytes : List ℕ) (taken : List Framed) → HasHeard bytes taken old → HasHeard (bytes ++ more) (taken ++ framed ∷ []) new
+    (bytes : List ℕ) (taken : List Framed) → HasHeard bytes taken old
+        → HasHeard (bytes ++ more) (taken ++ framed ∷ []) new
 
 -- The feeder has failed with this refusal; no frame waits, and what it had heard before it has heard still.
 pub record IsRefused (old new : Feeding) (refusal : WireRefusal) : Type 0 where

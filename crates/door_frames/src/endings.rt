@@ -1,8 +1,8 @@
 use cynara_keys::Question;
 use wire_messages::WireRefusal;
 
-/// How the serving of a connection ended. Where several hold, `Hung` comes first, then `Stopped`, and then what the link
-/// gave.
+/// How the serving of a connection ended. Where several hold, `Hung` comes first, then `Stopped`, and then what the
+/// link gave.
 #[derive(Debug, Drop, PartialEq, Eq)]
 pub enum Ended {
     /// The input ended between frames, or an agent was told that its kind is taken.
@@ -22,8 +22,8 @@ pub enum Ended {
     Stopped,
     /// Want of memory.
     Memory,
-    /// The table of questions has none of the number that this connection put, or another question than its own, which is
-    /// given.
+    /// The table of questions has none of the number that this connection put, or another question than its own, which
+    /// is given.
     Strayed {
         number: u32,
         found: Option<Question>,

@@ -13,9 +13,9 @@ use wire_messages::{Feeder, Framed, WireRefusal, pieces_do_not_matter};
 /// How many bytes a door receives at once, at most.
 pub const MOST_PIECE: usize = 4096;
 
-/// Receives the next bytes of a link into the room, once all frames that were heard are taken, and says how many there are.
-/// They are not fed: `hear_piece` does that. Ends where the input has ended, where a call of the link failed, and where the
-/// feeder has failed. It may wait for bytes.
+/// Receives the next bytes of a link into the room, once all frames that were heard are taken, and says how many there
+/// are. They are not fed: `hear_piece` does that. Ends where the input has ended, where a call of the link failed, and
+/// where the feeder has failed. It may wait for bytes.
 pub fn receive_piece<L: Link>(
     link: &mut L,
     feeder: &mut Feeder,
@@ -27,7 +27,8 @@ pub fn receive_piece<L: Link>(
     ensures came { IfOk result (λ count. (0 < count) × (count ≤ length room.new)
         × Carried (L.traffic link.old) (L.traffic link.new) (take count room.new) []) }
     ensures still { OnOk result ((feeder.old.failed ≡ None) × (feeder.new ≡ feeder.old)) }
-    ensures heard { OnErr result (Carried (L.traffic link.old) (L.traffic link.new) [] [] × HearsMore [] feeder.old feeder.new) }
+    ensures heard { OnErr result (Carried (L.traffic link.old) (L.traffic link.new) [] []
+        × HearsMore [] feeder.old feeder.new) }
     ensures sound { IsSound feeder.new }
     ensures side { feeder.new.heard ≡ feeder.old.heard }
     ensures faults { OnOk result (L.faults link.new ≡ L.faults link.old) }
@@ -60,9 +61,9 @@ pub fn hear_piece(feeder: &mut Feeder, piece: &[u8])
     }
 }
 
-/// Receives the next bytes of a link into the room and feeds them, once all frames that were heard are taken. What is wrong
-/// with them shows at the next call. Ends where the input has ended, where a call of the link failed, and where the feeder
-/// has failed. It may wait for bytes.
+/// Receives the next bytes of a link into the room and feeds them, once all frames that were heard are taken. What is
+/// wrong with them shows at the next call. Ends where the input has ended, where a call of the link failed, and where
+/// the feeder has failed. It may wait for bytes.
 pub fn receive_more<L: Link>(
     link: &mut L,
     feeder: &mut Feeder,

@@ -9,8 +9,8 @@ use desk_ports::Bytes;
 use link_ports::Link;
 use wire_messages::{Message, encode_message_into};
 
-/// Spells a message with its sequence number into a buffer in place of what it held, and sends it. Ends where a call of the
-/// link failed, and for want of memory, where nothing is sent.
+/// Spells a message with its sequence number into a buffer in place of what it held, and sends it. Ends where a call of
+/// the link failed, and for want of memory, where nothing is sent.
 pub fn send_message<L: Link>(
     link: &mut L,
     frame: &mut Bytes,

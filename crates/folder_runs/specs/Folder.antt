@@ -28,8 +28,8 @@ RefusesMount told (Damaged file line) =
     WhereTold told (λ before. kept before.current ≡ Err (record { file = file; line = line }))
 RefusesMount told ending = ⊥
 
--- The folder was not mounted, and no answer was due. A stop meanwhile left what recovers as something that a stop at entry
--- may leave.
+-- The folder was not mounted, and no answer was due. A stop meanwhile left what recovers as something that a stop at
+-- entry may leave.
 pub record RefusesFolder (said : Said) (ending : Ending) (before after : DiskSeen) : Type 0 where
   pub refused : RefusesMount before.state ending
   pub silent : said ≡ silence
@@ -51,9 +51,9 @@ EndsOver Disk start answered steps told =
 EndsOver ending start answered steps told =
     (held : Option (List SetFile)) × EndsKept (state_after start answered) held told
 
--- What a stop may have left at each moment of a run, over a folder that was mounted, with these steps: from some moment on, which
--- the code makes that of the mount, what stands for the state after the first few of them, and before also what a stop at entry
--- may leave.
+-- What a stop may have left at each moment of a run, over a folder that was mounted, with these steps: from some moment
+-- on, which the code makes that of the mount, what stands for the state after the first few of them, and before also
+-- what a stop at entry may leave.
 pub record KeepsFolder (entry : DiskState) (before after : DiskSeen) (ending : Ending) (start : DeskState)
     (answered steps : List Step) : Type 0 where
   pub stood : kept entry.current ≡ Ok start
@@ -61,6 +61,7 @@ pub record KeepsFolder (entry : DiskState) (before after : DiskSeen) (ending : E
   pub mounted_at : ℕ
   pub later : before.moment ≤ mounted_at
   pub within : mounted_at ≤ after.moment
-  pub mounting : (map : FileMap) → after.left_since before.moment map → RecoversAsAllowed entry map ⊎ StandsWithin start steps map
+  pub mounting : (map : FileMap) → after.left_since before.moment map → RecoversAsAllowed entry map
+      ⊎ StandsWithin start steps map
   pub running : (map : FileMap) → after.left_since mounted_at map → StandsWithin start steps map
   pub ends : EndsOver ending start answered steps after.state

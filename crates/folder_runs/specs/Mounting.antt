@@ -1,7 +1,8 @@
 -- The endings that a refused mount leads to.
 use Rattle.std.specs.Prelude.{◌≡◌}
 use Rattle.desk_keeper.specs.declared.refusals.KeeperRefusal.{KeeperRefusal}
-use Rattle.desk_keeper.specs.declared.refusals.KeeperRefusal.TheVariants.{StoreFault, Damaged as FolderDamaged, Memory as NoMemory}
+use Rattle.desk_keeper.specs.declared.refusals.KeeperRefusal.TheVariants.{StoreFault, Damaged as FolderDamaged}
+use Rattle.desk_keeper.specs.declared.refusals.KeeperRefusal.TheVariants.{Memory as NoMemory}
 use Rattle.run_endings.specs.declared.endings.Ending.{Ending}
 use Rattle.run_endings.specs.declared.endings.Ending.TheVariants.{Memory, Disk, Damaged}
 

@@ -42,7 +42,8 @@ result_text result =
 
 -- `RESULT COMMIT BUCKET`, which the text of each evaluation begins with
 abbrev pub verdict_text : ℕ → List ℕ → Ruling → List ℕ
-verdict_text commit name result = result_text result ++ (codes " " ++ (decimal commit ++ (codes " " ++ bucket_text name)))
+verdict_text commit name result = result_text result ++ (codes " "
+    ++ (decimal commit ++ (codes " " ++ bucket_text name)))
 
 -- `CLIENT USER PRIVILEGE`
 abbrev pub key_text : List ℕ → List ℕ → List ℕ → List ℕ
@@ -127,7 +128,8 @@ by_fallback_text commit name fallback = verdict_text commit name fallback ++ cod
 -- an agent's answer to the question with this number
 unfoldable pub from_agent_text : ℕ → Bool → ℕ → ℕ → List ℕ
 from_agent_text commit allowed kind number =
-    decision_text allowed ++ (codes " " ++ (decimal commit ++ (codes " agent " ++ (decimal kind ++ (codes " " ++ (decimal number ++ codes "\n"))))))
+    decision_text allowed ++ (codes " " ++ (decimal commit ++
+        (codes " agent " ++ (decimal kind ++ (codes " " ++ (decimal number ++ codes "\n"))))))
 
 -- a verdict that names an agent's kind, where none was asked
 unfoldable pub not_resolved_text : ℕ → ℕ → List ℕ
@@ -144,7 +146,8 @@ agent_gone_text commit number = codes "agent-gone " ++ (decimal commit ++ (codes
 -- an agent of this kind is asked no more, since there are so many questions
 unfoldable pub agent_full_text : ℕ → ℕ → ℕ → List ℕ
 agent_full_text commit kind most =
-    codes "agent-full " ++ (decimal commit ++ (codes " " ++ (decimal kind ++ (codes " " ++ (decimal most ++ codes "\n")))))
+    codes "agent-full " ++ (decimal commit ++ (codes " " ++ (decimal kind
+        ++ (codes " " ++ (decimal most ++ codes "\n")))))
 
 -- one policy of a list
 unfoldable pub row_text : List ℕ → List ℕ → List ℕ → Ruling → List ℕ
@@ -237,7 +240,8 @@ store_damaged_text file line = codes "store-damaged " ++ (file ++ (codes " " ++ 
 -- what an agent is asked, and the result that asks it
 unfoldable pub question_text : ℕ → List ℕ → List ℕ → List ℕ → Ruling → List ℕ
 question_text number client user privilege result =
-    codes "question " ++ (decimal number ++ (codes " " ++ (key_text client user privilege ++ (codes " " ++ (result_text result ++ codes "\n")))))
+    codes "question " ++ (decimal number ++ (codes " " ++ (key_text client user privilege
+        ++ (codes " " ++ (result_text result ++ codes "\n")))))
 
 -- another agent of this kind is there
 unfoldable pub taken_text : ℕ → List ℕ

@@ -7,7 +7,7 @@ use mathlib.Core.List.{IsPrefix}
 use Rattle.cynara_keys.specs.Key.{Question}
 use Rattle.desk_state.specs.DeskState.{DeskState}
 use Rattle.live_desk.specs.declared.verdicts.BorrowedVerdict.{BorrowedVerdict}
-use Rattle.live_desk.specs.History.{GoesOn, IsLast, Rises, RisesFrom, last_commit}
+use Rattle.live_desk.specs.History.{GoesOn, Rises, RisesFrom, last_commit}
 use Rattle.live_desk.specs.Shown.{ShownState, IsShown}
 use Rattle.live_desk.specs.Seat.{SeatState, HasSeen, IsTold, Tells}
 

@@ -57,12 +57,14 @@ pub record AnswersScript (start : DeskState) (said : Said) (ending : Ending) (be
 -- ---- the run
 
 -- The folder was not mounted, and the source was not read.
-pub record RunsUnmounted (said : Said) (ending : Ending) (source source_after : SourceSeen) (disk disk_after : DiskSeen) : Type 0 where
+pub record RunsUnmounted (said : Said) (ending : Ending) (source source_after : SourceSeen)
+    (disk disk_after : DiskSeen) : Type 0 where
   pub folder : RefusesFolder said ending disk disk_after
   pub unread : source_after ≡ source
 
 -- The folder was mounted, and stood for this state.
-pub record RunsOver (said : Said) (ending : Ending) (source source_after : SourceSeen) (disk disk_after : DiskSeen) : Type 0 where
+pub record RunsOver (said : Said) (ending : Ending) (source source_after : SourceSeen)
+    (disk disk_after : DiskSeen) : Type 0 where
   pub start : DeskState
   pub script : AnswersScript start said ending source source_after
   pub folder : WhereTold disk.state

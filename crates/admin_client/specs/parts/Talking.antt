@@ -28,10 +28,12 @@ use Rattle.admin_client.specs.declared.refusals.AdminRefusal.{AdminRefusal}
 -- a reply is whole: it is a row, and a further reply is to come; or the last one; or it is wrong
 pub data Follows (exchange : Exchange) (framed : Framed) (answer : Step) (old new : Admin) : Type 0 where
   row : IsRow exchange.wanted exchange.sequence exchange.rows framed → answer ≡ step.Row framed.message
-      → new ≡ record old { stage = stage.Waiting (with_row exchange) (unheard Replies) } → Follows exchange framed answer old new
+      → new ≡ record old { stage = stage.Waiting (with_row exchange) (unheard Replies) }
+          → Follows exchange framed answer old new
   last : IsLast exchange.wanted exchange.sequence exchange.rows framed → answer ≡ step.Reply framed.message
       → new ≡ record old { stage = stage.Idle } → Follows exchange framed answer old new
-  wrong : (found : Fault) → IsWrong exchange.wanted exchange.sequence exchange.rows framed found → answer ≡ step.Over found
+  wrong : (found : Fault) → IsWrong exchange.wanted exchange.sequence exchange.rows framed found
+      → answer ≡ step.Over found
       → new ≡ cut old → Follows exchange framed answer old new
 
 -- this was read, and the machine does what follows from it
@@ -42,7 +44,8 @@ Hears Reads trouble exchange answer old new =
     (trouble × (answer ≡ step.Over fault.Unavailable) × (new ≡ cut old))
 
 -- Bytes came, and the reply goes on with them; or they were the last.
-pub data Takes (before after : Option Traffic) (trouble : Type 0) (exchange : Exchange) (ear : Listening) (answer : Step) (old new : Admin) : Type 0 where
+pub data Takes (before after : Option Traffic) (trouble : Type 0) (exchange : Exchange) (ear : Listening)
+    (answer : Step) (old new : Admin) : Type 0 where
   went_on : (bytes : List ℕ) → 0 < length bytes → IfTold before (λ traffic. after ≡ Some (with_received bytes traffic))
       → IsOpen ear.side (ear.bytes ++ bytes) → answer ≡ step.Wait
       → new ≡ record old { stage = stage.Waiting exchange (record ear { bytes = ear.bytes ++ bytes }) }
@@ -64,7 +67,8 @@ Leaves trouble (Err refusal) old new = (new ≡ cut old) × IfUnavailable refusa
 module _ {N L : Type 0} (link_faults : L → ℕ) (marks : L → LinkMarks) (traffic : L → Option Traffic)
     (faults dials : N → ℕ) (given_back : N → Option (List L)) where
   -- the frame of the message went over this link, which stays or is given back
-  pub record TalksOver (sequence : ℕ) (message : Message) (result : Result (List Message) AdminRefusal) (base : L) (old new : N) (left : Option L) : Type 0 where
+  pub record TalksOver (sequence : ℕ) (message : Message) (result : Result (List Message) AdminRefusal) (base : L)
+      (old new : N) (left : Option L) : Type 0 where
     pub link : L
     pub exchanged : Exchanges sequence message result (traffic base) (traffic link)
     pub ends : Ends link_faults marks traffic faults dials given_back result old link new left

@@ -11,7 +11,8 @@ use Rattle.client_connection.specs.declared.faults.Broken.TheVariants.{Lost, Wro
 use Rattle.client_connection.specs.declared.asking.Outcome.{Outcome}
 use Rattle.client_connection.specs.declared.asking.Outcome.TheVariants as outcome
 
-module _ {L : Type 0} (link_faults : L → ℕ) (marks : L → LinkMarks) (traffic : L → Option Traffic) (frame : List ℕ) where
+module _ {L : Type 0} (link_faults : L → ℕ) (marks : L → LinkMarks) (traffic : L → Option Traffic)
+    (frame : List ℕ) where
   -- what came over the link
   pub record Goes (base : L) (result : Result Framed Broken) (link : L) : Type 0 where
     pub exchanged : Exchanges frame result (traffic base) (traffic link)

@@ -7,7 +7,8 @@ use Rattle.link_ports.specs.LinkContent.{LinkContent}
 use Rattle.client_connection.specs.Giving.{GivesBack}
 use Rattle.cynara_client.specs.Looking.{IsLooked}
 
-module _ {L : Type 0} (link_faults : L → ℕ) (marks : L → LinkMarks) (traffic : L → Option Traffic) (content : L → Option LinkContent) where
+module _ {L : Type 0} (link_faults : L → ℕ) (marks : L → LinkMarks) (traffic : L → Option Traffic)
+    (content : L → Option LinkContent) where
   module _ {N : Type 0} (faults dials : N → ℕ) (given_back : N → Option (List L)) where
     -- it was given back, which the dialler counts
     pub record IsLost (before : L) (old new : N) : Type 0 where

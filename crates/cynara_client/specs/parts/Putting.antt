@@ -16,7 +16,8 @@ pub data Puts (session : List ℕ) (question : Question) (simple : Bool) (answer
       → Puts session question simple answer old new
 
 -- and the machine is told whether the link is up
-pub data PutsAndLooks (session : List ℕ) (question : Question) (simple is_up : Bool) (answer : Step) (old new : Client) : Type 0 where
+pub data PutsAndLooks (session : List ℕ) (question : Question) (simple is_up : Bool) (answer : Step)
+    (old new : Client) : Type 0 where
   looked : (mid : Client) → mid ≡ record old { stage = stage.Looking (does.first_try session question simple) }
       → does.Looks is_up answer mid new → PutsAndLooks session question simple is_up answer old new
   lacks : (error : AllocError) → answer ≡ step.Over (fault.Memory error) → new ≡ does.left old

@@ -28,7 +28,8 @@ Hears Reads trouble asking answer old new =
     (trouble × Retries asking answer old new)
 
 -- Bytes came, and the reply goes on with them; or they were the last.
-pub data Takes (before after : Option Traffic) (trouble : Type 0) (asking : Asking) (ear : Listening) (answer : Step) (old new : Client) : Type 0 where
+pub data Takes (before after : Option Traffic) (trouble : Type 0) (asking : Asking) (ear : Listening) (answer : Step)
+    (old new : Client) : Type 0 where
   went_on : (bytes : List ℕ) → 0 < length bytes → IfTold before (λ traffic. after ≡ Some (with_received bytes traffic))
       → IsOpen ear.side (ear.bytes ++ bytes) → answer ≡ step.Wait
       → new ≡ record old { stage = stage.Waiting asking (record ear { bytes = ear.bytes ++ bytes }) }

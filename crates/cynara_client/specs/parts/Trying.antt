@@ -25,10 +25,12 @@ use Rattle.cynara_client.specs.declared.trying.Tried.TheVariants as tried
 
 -- a try was lost, which may have been the last one
 abbrev pub gives_up : {L : Type 0} → Bool → Bool → Asking → Tried L → Client → Client → Type 0
-gives_up true is_tried asking made old new = (made ≡ tried.Over fault.Unavailable) × (new ≡ raised is_tried (forgotten old))
+gives_up true is_tried asking made old new = (made ≡ tried.Over fault.Unavailable)
+    × (new ≡ raised is_tried (forgotten old))
 gives_up false is_tried asking made old new =
     (made ≡ tried.Again)
-    × (new ≡ record (forgotten old) { stage = stage.Dialling (with_tries (asking.tries - 1) (record asking { is_tried = is_tried })) })
+    × (new ≡ record (forgotten old) { stage = stage.Dialling
+        (with_tries (asking.tries - 1) (record asking { is_tried = is_tried })) })
 
 module _ {L : Type 0} (link_faults : L → ℕ) (marks : L → LinkMarks) where
   module _ {N : Type 0} (faults dials : N → ℕ) (given_back : N → Option (List L)) where
@@ -58,28 +60,35 @@ module _ {L : Type 0} (link_faults : L → ℕ) (marks : L → LinkMarks) where
   module _ (traffic : L → Option Traffic) where
     module _ {N : Type 0} (faults dials : N → ℕ) (given_back : N → Option (List L)) where
       -- the frame went over a link that is there or was dialled
-      pub record TalksOver (is_new : Bool) (asking : Asking) (base : L) (made : Tried L) (old new : Client) (before after : N) : Type 0 where
+      pub record TalksOver (is_new : Bool) (asking : Asking) (base : L) (made : Tried L) (old new : Client)
+          (before after : N) : Type 0 where
         pub came_of : Outcome L
         pub mid : N
         pub over : GoesOver link_faults marks traffic old.frame faults dials given_back is_new base came_of before mid
         pub follows : Follows faults dials given_back came_of asking made old new mid after
 
       -- the frame went over a link that was dialled: the machine was told so
-      pub record TalksAnew (asking : Asking) (base : L) (made : Tried L) (old new : Client) (before after : N) : Type 0 where
+      pub record TalksAnew (asking : Asking) (base : L) (made : Tried L) (old new : Client)
+          (before after : N) : Type 0 where
         pub mid : Client
         pub told : mid ≡ record old { is_linked = true; stage = waiting asking }
         pub talks : TalksOver true asking base made mid new before after
 
       -- the frame was to be sent, over this link or over one that is dialled
-      pub record TriesOnce (asking : Asking) (entry : Option L) (made : Tried L) (old new : Client) (before after : N) : Type 0 where
+      pub record TriesOnce (asking : Asking) (entry : Option L) (made : Tried L) (old new : Client)
+          (before after : N) : Type 0 where
         pub came_of : Outcome L
         pub mid : N
-        pub asks : Asks link_faults marks traffic old.frame faults dials given_back 1 asking.is_tried entry came_of before mid
+        pub asks : Asks link_faults marks traffic old.frame faults dials given_back 1 asking.is_tried entry came_of
+            before mid
         pub follows : Follows faults dials given_back came_of asking made old new mid after
 
       -- the same, with as many tries as there are
-      pub record Goes (asking : Asking) (entry : Option L) (result : Result Checked ClientRefusal) (before : N) (new : State N L) (old : Client) : Type 0 where
+      pub record Goes (asking : Asking) (entry : Option L) (result : Result Checked ClientRefusal) (before : N)
+          (new : State N L) (old : Client) : Type 0 where
         pub came_of : Outcome L
         pub mid : N
-        pub asks : Asks link_faults marks traffic old.frame faults dials given_back asking.tries asking.is_tried entry came_of before mid
-        pub concluded : Concludes link_faults marks faults dials given_back (asked_by asking) came_of result (seen mid entry old) new
+        pub asks : Asks link_faults marks traffic old.frame faults dials given_back asking.tries asking.is_tried entry
+            came_of before mid
+        pub concluded : Concludes link_faults marks faults dials given_back (asked_by asking) came_of result
+            (seen mid entry old) new

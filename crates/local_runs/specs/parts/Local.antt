@@ -94,7 +94,8 @@ module _ (taken taken_after : Option (List ℕ)) (answers answers_after : List �
   RefusesStep asked Disk = FailsToKeep asked
   RefusesStep asked ending = ⊥
 
-module _ (taken taken_after : Option (List ℕ)) (old new : LocalScript) (desk desk_after : DeskState) (line : List ℕ) where
+module _ (taken taken_after : Option (List ℕ)) (old new : LocalScript) (desk desk_after : DeskState)
+    (line : List ℕ) where
   -- the line's step was done
   pub record AnswersLine : Type 0 where
     pub step : Step
@@ -145,7 +146,8 @@ module _ (left left_after taken taken_after : Option (List ℕ)) (old new : Loca
     pub hands : Hands taken taken_after old.answers new.answers
     pub ends : EndsReading left left_after reading reading_after
     pub number : line ≡ reading.number + 1
-    pub wrong : (Keeps left left_after reading reading_after × GoesPast reading.longest reading.room reading_after.waiting)
+    pub wrong : (Keeps left left_after reading reading_after
+        × GoesPast reading.longest reading.room reading_after.waiting)
         ⊎ (HandsOut left left_after reading reading_after × (step_at old.reader reading_after.line ≡ None))
     pub state : desk_after ≡ desk
 

@@ -17,6 +17,7 @@ send_due-requires g c = record {
         (g.A.Hall.calls c.answer_command.new.hall)) list) (sym c.deref.ensures.value) c.in-Ok.ensures.answered;
     acknowledged = subst (λ (list : List Message). Acknowledges c.args.framed.now.message
         (side_of g.D.Disk.faults c.answer_command.new.keeper c.answer_command.new.publisher (g.A.Hall.tally c.answer_command.new.hall)
-        (g.A.Hall.calls c.answer_command.new.hall)) list) (sym c.deref.ensures.value) c.in-Ok.ensures.acknowledged;
+        (g.A.Hall.calls c.answer_command.new.hall)) c.answer_command.new.hangs list) (sym c.deref.ensures.value)
+        c.in-Ok.ensures.acknowledged;
   };
 }

@@ -10,6 +10,7 @@ use Rattle.admin_door.specs.parts.Talk.{Stands}
 use Rattle.desk_keeper.specs.Keeper.{disk_of}
 use Rattle.admin_door.proofs.Running.{runs-none}
 use Rattle.admin_door.proofs.Serving.{stands-first}
+use Rattle.admin_door.proofs.Hanging.{hangs_none}
 use Rattle.admin_door.proofs.admin_loops.serve.Goals as goal
 
 pub loop-init : goal.loop-init
@@ -27,4 +28,5 @@ loop-init g c =
       refl,
       c.requires,
       refl,
+      hangs_none c.args.publisher.now c.args.hangs.now,
     )

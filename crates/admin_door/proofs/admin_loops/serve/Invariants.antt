@@ -6,6 +6,7 @@ use Rattle.door_frames.specs.Hearing.{IsSound}
 use Rattle.admin_door.specs.Side.{side_of}
 use Rattle.admin_door.specs.Running.{RunsOver}
 use Rattle.admin_door.specs.Serving.{talk_of}
+use Rattle.admin_door.specs.Hanging.{HangsOn}
 use Rattle.admin_door.specs.parts.Talk.{Stands}
 use Rattle.admin_door.proofs.admin_loops.serve.Given as goal
 
@@ -23,3 +24,4 @@ invariant-loop g l =
     × (length l.room ≡ 4096)
     × (last_commit 0 l.publisher ≤ l.keeper.desk.commit)
     × IsSameDisk l.fn.keeper l.keeper
+    × HangsOn l.fn.publisher l.publisher l.fn.hangs l.hangs

@@ -5,13 +5,13 @@ use Rattle.serve_runs.proofs.Crewing.{zip_each, went}
 use Rattle.serve_runs.proofs.Sent.{worker_row_send}
 use Rattle.serve_runs.proofs.serving.serve.Goals as goal
 
-pub beside-requires-send-K : goal.beside-requires-send-K
-beside-requires-send-K g c κs within = search (sendable, worker_row_send) depth 20
+pub beside-end-requires-send-K : goal.beside-end-requires-send-K
+beside-end-requires-send-K g c κs within = search (sendable, worker_row_send) depth 20
 
 pub returns-clause-workers : goal.returns-clause-workers
 returns-clause-workers g c =
-    zip_each (HasWorked g.E.Link.Link.traffic g.E.Link.Link.marks g.E.Link.Link.faults g.E.Door.given_back g.E.Door.faults
-    g.X.ClientDuty.goes g.E.Door.kind) c.args.crew.now c.beside.new.workers (search rules)
-    (λ i d low. let at = (c.beside.ensures.workers.changes i d low).1 in
-    went (HasWorked g.E.Link.Link.traffic g.E.Link.Link.marks g.E.Link.Link.faults g.E.Door.given_back g.E.Door.faults
-    g.X.ClientDuty.goes g.E.Door.kind) _ _ at.argument.now at.after_call.now at.argument_is at.left at.call)
+    zip_each (HasWorked g.X.ClientDuty.state (g.X.ClientDuty.visits g.E.Link.Link.traffic g.E.Link.Link.marks g.E.Link.Link.faults)
+    g.E.Link.Link.traffic g.E.Link.Link.marks g.E.Link.Link.faults g.E.Door.given_back g.E.Door.faults g.E.Door.kind) c.args.crew.now c.beside-end.new.workers (search rules)
+    (λ i d low. let at = (c.beside-end.ensures.workers.changes i d low).1 in
+    went (HasWorked g.X.ClientDuty.state (g.X.ClientDuty.visits g.E.Link.Link.traffic g.E.Link.Link.marks g.E.Link.Link.faults)
+    g.E.Link.Link.traffic g.E.Link.Link.marks g.E.Link.Link.faults g.E.Door.given_back g.E.Door.faults g.E.Door.kind) _ _ at.argument.now at.after_call.now at.argument_is at.left at.call)

@@ -1,6 +1,6 @@
 use Rattle.std.proofs.Common.{rules}
 use Rattle.socket_net.proofs.Appending.{appended_more}
-use Rattle.socket_net.proofs.stays.Stay.send_in_time.Goals as goal
+use Rattle.socket_net.proofs.stays.Stay.send_since.Goals as goal
 
 pub loop-preserved : goal.loop-preserved
 loop-preserved g c = record {

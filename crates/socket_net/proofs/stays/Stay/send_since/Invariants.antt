@@ -1,6 +1,6 @@
 use Rattle.std.proofs.Common.{◌≤◌, length, take}
 use Rattle.desk_ports.specs.Content.{Appended}
-use Rattle.socket_net.proofs.stays.Stay.send_in_time.Given as goal
+use Rattle.socket_net.proofs.stays.Stay.send_since.Given as goal
 
 abbrev pub invariant-loop : goal.invariant-loop
 invariant-loop g l = record {
