@@ -50,9 +50,9 @@ module _ (sequence : ℕ) (message : Message) (s : AgentStage) (answer : Step) (
       cc
 
 -- the machine answered that no frame is there
-pub unsent : (answer : Step) (frame : List ℕ) (link : LinkSeen) → (answer ≡ step.Send → ⊥) → Sends answer frame (Err Memory) link link
-unsent step.Send frame link none = absurd (none refl)
-unsent answer frame link none = (refl, refl)
+pub unsent : (answer : Step) (bytes : List ℕ) (link : LinkSeen) → (answer ≡ step.Send → ⊥) → Sends answer bytes (Err Memory) link link
+unsent step.Send bytes link none = absurd (none refl)
+unsent answer bytes link none = (refl, refl)
 
 -- ---- a message
 

@@ -15,12 +15,10 @@ use Rattle.wire_reading.specs.Stream.{Hears, IsOpen, BeginsWrong, wanted}
 use Rattle.client_connection.specs.Reading.{size_of}
 use Rattle.client_connection.proofs.Sizes.{piece_within, open_wants}
 use Rattle.client_core.specs.Listening.{Listening, is_fit}
-use Rattle.client_core.specs.Hearing.{HearsPiece, fault_by}
+use Rattle.client_core.specs.Hearing.{fault_by}
 use Rattle.client_core.specs.Agent.{Agent, wanted_at, still_open}
 use Rattle.client_core.specs.Agent as does
-use Rattle.client_core.proofs.Staging.{fit}
-use Rattle.client_core.specs.declared.ears.Piece.{Piece}
-use Rattle.client_core.specs.declared.ears.Piece.TheVariants as piece
+use Rattle.client_core.proofs.Staging.{fit, agent_by_first, agent_by_next}
 use Rattle.client_core.specs.declared.stages.Open.{Open}
 use Rattle.client_core.specs.declared.stages.AgentStage.{AgentStage}
 use Rattle.client_core.specs.declared.stages.AgentStage.TheVariants as stage
@@ -107,47 +105,32 @@ module _ (answer : Step) (old new : Agent) where
   over messages bytes (NoMemory error) is within = tt
   over messages bytes refusal is within = IsBadReply.wrong refusal is within refl
 
-  module _ (there bytes : List ℕ) (within : length (there ++ bytes) ≤ size_of (there ++ bytes)) where
-    hears_first : (came : Piece) → HearsPiece came (with_bytes there) bytes → does.hears_first came answer old new
-        → Makes [] (there ++ bytes) answer new.stage
-    hears_first (piece.More ear) heard d =
-        so [] (there ++ bytes) step.Wait d.0
-        (heard.1, ap (λ (a : Agent). a.stage) d.1 ∙ ap (λ (ear : Listening). stage.Registering ear) heard.0)
-    hears_first (piece.Whole framed) heard d = begins (there ++ bytes) framed.message framed.sequence heard d
-    hears_first (piece.Wrong refusal) heard d =
-        so [] (there ++ bytes) (step.Over (fault_by refusal)) d.0 (over [] (there ++ bytes) refusal heard within)
-
-    hears_next : (first : Framed) (before : List Framed) → GoesOn (first ∷ before) → (asked : Option Open) (came : Piece)
-        → HearsPiece came (with_bytes there) bytes → does.hears_next came asked answer old new
-        → Makes (first ∷ before) (there ++ bytes) answer new.stage
-    hears_next first before goes asked (piece.More ear) heard d =
-        so (first ∷ before) (there ++ bytes) step.Wait d.0
-        (heard.1, (asked, ap (λ (a : Agent). a.stage) d.1 ∙ ap (λ (ear : Listening). stage.Listening asked ear) heard.0))
-    hears_next first before goes asked (piece.Whole framed) heard d =
-        turns first before goes asked (there ++ bytes) framed.message framed.sequence heard d
-    hears_next first before goes asked (piece.Wrong refusal) heard d =
-        so (first ∷ before) (there ++ bytes) (step.Over (fault_by refusal)) d.0
-        (over (first ∷ before) (there ++ bytes) refusal heard within)
-
   module _ (there bytes : List ℕ) (unfinished : IsOpen AgentReplies there) (some : 0 < length bytes) (few : length bytes ≤ wanted there) where
-    within : length (there ++ bytes) ≤ size_of (there ++ bytes)
-    within = piece_within AgentReplies there bytes unfinished few
+    wrong : (messages : List Framed) (refusal : WireRefusal) → BeginsWrong AgentReplies (there ++ bytes) refusal
+        → answer ≡ step.Over (fault_by refusal) → new ≡ does.cut old → Makes messages (there ++ bytes) answer new.stage
+    wrong messages refusal is a now =
+        so messages (there ++ bytes) (step.Over (fault_by refusal)) a
+        (over messages (there ++ bytes) refusal is (piece_within AgentReplies there bytes unfinished few))
 
     pub makes : (messages : List Framed) → GoesOn messages → IsBehind messages there old.stage → does.Comes bytes answer old new
         → Makes messages (there ++ bytes) answer new.stage
     makes [] goes behind comes =
         let at : does.comes_first (is_fit there bytes) (with_bytes there) bytes answer old new =
         subst (λ (s : AgentStage). does.comes_at s bytes answer old new) behind comes in
-        let heard : does.HearsFirst (with_bytes there) bytes answer old new =
-        subst (λ (fits : Bool). does.comes_first fits (with_bytes there) bytes answer old new) (fit there bytes some few) at in
-        hears_first there bytes within heard.0 heard.1 heard.2
+        agent_by_first (with_bytes there) bytes answer old new (wrong [])
+        (λ after is open_frame a now. so [] (there ++ bytes) step.Wait a
+        (open_frame, ap (λ (a : Agent). a.stage) now ∙ ap (λ (ear : Listening). stage.Registering ear) is))
+        (λ one heard d. begins (there ++ bytes) one.message one.sequence heard d)
+        (subst (λ (fits : Bool). does.comes_first fits (with_bytes there) bytes answer old new) (fit there bytes some few) at)
     makes (first ∷ before) goes behind comes =
         let asked : Option Open = behind.0 in
         let at : does.comes_next (is_fit there bytes) asked (with_bytes there) bytes answer old new =
         subst (λ (s : AgentStage). does.comes_at s bytes answer old new) behind.1 comes in
-        let heard : does.HearsNext asked (with_bytes there) bytes answer old new =
-        subst (λ (fits : Bool). does.comes_next fits asked (with_bytes there) bytes answer old new) (fit there bytes some few) at in
-        hears_next there bytes within first before goes asked heard.0 heard.1 heard.2
+        agent_by_next (with_bytes there) bytes answer old new (wrong (first ∷ before)) asked
+        (λ after is open_frame a now. so (first ∷ before) (there ++ bytes) step.Wait a
+        (open_frame, (asked, ap (λ (a : Agent). a.stage) now ∙ ap (λ (ear : Listening). stage.Listening asked ear) is)))
+        (λ one heard d. turns first before goes asked (there ++ bytes) one.message one.sequence heard d)
+        (subst (λ (fits : Bool). does.comes_next fits asked (with_bytes there) bytes answer old new) (fit there bytes some few) at)
 
 -- ---- how much is wanted
 
