@@ -1,18 +1,17 @@
 // What a folder keeps, found before its disk is lent to a keeper.
 ghost use Rattle.std.specs.Prelude.{◌≡◌, Ok, IfOk, IfErr};
-ghost use Rattle.std.specs.Option.{option_copied};
 ghost use Rattle.desk_ports.specs.Disk.{WhereTold};
 ghost use Rattle.desk_ports.specs.Moments.{LeavesOnly};
-ghost use Rattle.desk_keeper.specs.Kept.{desk_of_set, kept};
+ghost use Rattle.desk_keeper.specs.Kept.{kept};
 ghost use Rattle.guard_files.specs.Mounted.{RecoversAsAllowed};
 ghost use Rattle.desk_keeper.specs.Keeping.{EndsKept, IfDamaged, LeavesDamaged, SparesDamaged, count_after_mount};
-ghost use Rattle.desk_keeper.specs.parts.Reading.{RefusesSet, refused};
+ghost use Rattle.desk_keeper.specs.parts.Reading.{refused};
 
+use crate::kept_states::{KeptState, desk_of};
 use crate::refusals::KeeperRefusal;
-use desk_ports::{Disk, FileSet};
+use desk_ports::Disk;
 use desk_state::Desk;
 use guard_files::{Mounted, VaultRefusal, look, settle};
-use set_text::{TextRefusal, read};
 use std::alloc::Global;
 use std::marker::Model;
 
@@ -20,7 +19,7 @@ use std::marker::Model;
 #[derive(Drop)]
 pub struct KeptDesk {
     pub(crate) found: Mounted,
-    pub(crate) desk: Desk,
+    pub(crate) desk: KeptState,
 }
 
 impl Model for KeptDesk {
@@ -73,25 +72,7 @@ impl KeptDesk {
     pub fn desk(&self) -> &Desk
         ensures { result.now ≡ self.now.desk }
     {
-        &self.desk
-    }
-}
-
-/// The state that a set of files, or none, stands for.
-pub(crate) fn desk_of(alloc: Global, held: Option<&FileSet>) -> Result<Desk, KeeperRefusal>
-    ensures desk { IfOk result (λ desk. desk_of_set (option_copied held.entry) ≡ Ok desk) }
-    ensures refused { IfErr result (RefusesSet (option_copied held.entry)) }
-{
-    match held {
-        Some(set) => match read(alloc, set) {
-            Ok(desk) => Ok(desk),
-            Err(TextRefusal::Damaged { file, line }) => Err(KeeperRefusal::Damaged { file, line }),
-            Err(TextRefusal::Memory(error)) => Err(KeeperRefusal::Memory(error)),
-        },
-        None => match Desk::fresh(alloc) {
-            Ok(desk) => Ok(desk),
-            Err(error) => Err(KeeperRefusal::Memory(error)),
-        },
+        self.desk.get()
     }
 }
 

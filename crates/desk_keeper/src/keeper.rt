@@ -1,5 +1,4 @@
 ghost use Rattle.std.specs.Prelude.{◌≡◌, ◌≤◌, ◌&&◌, ◌⊎◌, true, false, None, Some, Ok, Err, IfOk, IfErr, OnOk, OnErr};
-ghost use Rattle.std.proofs.Props.{props};
 ghost use Rattle.desk_ports.specs.Disk.{WhereTold};
 ghost use Rattle.desk_ports.specs.Faults.{next_count};
 ghost use Rattle.desk_ports.specs.Moments.{LeavesOnly};
@@ -9,21 +8,21 @@ ghost use Rattle.guard_files.specs.Telling.{StillTells};
 ghost use Rattle.desk_state.specs.Next.{next, erased_by};
 ghost use Rattle.desk_state.specs.Rules.{Refuses, fault};
 ghost use Rattle.set_text.specs.Files.{files};
-ghost use Rattle.set_text.specs.Reading.{read_of};
-ghost use Rattle.desk_keeper.specs.Kept.{desk_of_set, kept};
+ghost use Rattle.desk_keeper.specs.Kept.{kept};
 ghost use Rattle.desk_keeper.specs.parts.Reading.{NamesStamp};
 ghost use Rattle.desk_keeper.specs.Keeping.{IsKept, EndsKept, IfDamaged, LeavesDamaged, SparesDamaged};
 ghost use Rattle.desk_keeper.specs.Keeping.{count_after_refusal, count_after_mount};
 ghost use Rattle.desk_keeper.specs.Keeping.{IsOlder, IsBeforeOrAfter};
 
-use crate::folders::{KeptDesk, desk_of, refusal_of};
+use crate::folders::{KeptDesk, refusal_of};
+use crate::kept_states::{KeptState, desk_of};
 use crate::prepared::PreparedCommit;
 use crate::refusals::KeeperRefusal;
-use desk_ports::{Disk, FileSet};
-use desk_state::{Command, Desk, Refusal};
+use desk_ports::Disk;
+use desk_state::{Applied, Command, Desk, Refusal};
 use guard_files::{StoreFault, Vault};
-use set_text::{stamp_name, write, write_next};
-use std::alloc::{AllocError, Global};
+use set_text::stamp_name;
+use std::alloc::Global;
 
 /// A mount that was refused: why, and the disk, as it was left.
 #[derive(Drop)]
@@ -38,10 +37,8 @@ pub struct Unkept<'d, D: Disk> {
 pub struct Keeper<'d, D: Disk> {
     vault: Vault<'d, D>,
     alloc: Global,
-    desk: Desk,
+    desk: KeptState,
     read: bool,
-    // While it is decided, what the vault holds stands for the state.
-    ghost stands: { (read && vault.decided) ≡ true → desk_of_set vault.held ≡ Ok desk } by { Prim.hlevel props },
 }
 
 impl<'d, D: Disk> Keeper<'d, D> {
@@ -160,19 +157,17 @@ impl<'d, D: Disk> Keeper<'d, D> {
         ensures disk { result.now ≡ self.entry.vault.disk.now }
         ensures same_disk { result.ghost_name ≡ self.entry.vault.disk.ghost_name }
     {
-        let Keeper { vault, .. } = self;
-        vault.into_disk()
+        self.vault.into_disk()
     }
 
     /// The last state that was known to be kept.
     pub fn desk(&self) -> &Desk
         ensures { result.now ≡ self.now.desk }
     {
-        &self.desk
+        self.desk.get()
     }
 
-    /// What a commit of this command needs: files that the command leaves as they are, are taken from the held set.
-    /// Refuses as `Desk::apply` does.
+    /// What a commit of this command needs. Refuses as `Desk::apply` does.
     pub fn prepare(&self, command: &Command) -> Result<PreparedCommit, Refusal>
         requires { (self.now.read && self.now.vault.decided) ≡ true }
         ensures base { IfOk result (λ prepared. prepared.base ≡ self.now.desk.commit) }
@@ -188,8 +183,16 @@ impl<'d, D: Disk> Keeper<'d, D> {
             Ok(applied) => applied,
             Err(refusal) => return Err(refusal),
         };
-        let set = match self.files_of(&applied.desk) {
+        let Applied {
+            desk: after,
+            erased,
+        } = applied;
+        let set = match self.desk.files_of(self.alloc, &after) {
             Ok(set) => set,
+            Err(error) => return Err(Refusal::Memory(error)),
+        };
+        let kept = match KeptState::of_set(after, &set) {
+            Ok(kept) => kept,
             Err(error) => return Err(Refusal::Memory(error)),
         };
         let save = match self.vault.prepare(set) {
@@ -198,22 +201,10 @@ impl<'d, D: Disk> Keeper<'d, D> {
         };
         Ok(PreparedCommit {
             base: self.desk.commit(),
-            erased: applied.erased,
-            desk: applied.desk,
+            erased,
+            desk: kept,
             save,
         })
-    }
-
-    // The files of a state, most of which are those of the last one.
-    fn files_of(&self, desk: &Desk) -> Result<FileSet, AllocError>
-        requires { (self.now.read && self.now.vault.decided) ≡ true }
-        ensures files { IfOk result (λ set. set ≡ files desk.now) }
-        ensures again { IfOk result (λ set. read_of set ≡ Ok desk.now) }
-    {
-        match self.vault.held() {
-            Some(held) => write_next(self.alloc, &self.desk, held, desk),
-            None => write(self.alloc, desk),
-        }
     }
 
     /// Makes the folder keep the prepared state, and gives its commit number. It was prepared from what is kept now.
@@ -255,12 +246,10 @@ impl<'d, D: Disk> Keeper<'d, D> {
         ensures same_disk { self.new.vault.disk.ghost_name ≡ self.old.vault.disk.ghost_name }
     {
         let PreparedCommit { desk, save, .. } = prepared;
-        self.read = false;
         if let Err(fault) = self.vault.replace(save) {
             return Err(fault);
         }
         self.desk = desk;
-        self.read = true;
         Ok(self.desk.commit())
     }
 }

@@ -6,6 +6,7 @@
 
 mod folders;
 mod keeper;
+mod kept_states;
 mod prepared;
 mod refusals;
 

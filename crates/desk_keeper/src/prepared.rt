@@ -1,5 +1,6 @@
 ghost use Rattle.std.specs.Prelude.{◌≡◌};
 
+use crate::kept_states::KeptState;
 use desk_state::Desk;
 use guard_files::Prepared;
 use std::marker::Model;
@@ -10,7 +11,7 @@ use std::marker::Model;
 pub struct PreparedCommit {
     pub(crate) base: u64,
     pub(crate) erased: u32,
-    pub(crate) desk: Desk,
+    pub(crate) desk: KeptState,
     pub(crate) save: Prepared,
 }
 
@@ -50,6 +51,6 @@ impl PreparedCommit {
     pub fn desk(&self) -> &Desk
         ensures { result.now ≡ self.now.desk }
     {
-        &self.desk
+        self.desk.get()
     }
 }

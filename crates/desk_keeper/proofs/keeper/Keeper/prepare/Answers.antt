@@ -14,6 +14,14 @@ prepare-requires-clause-listable g c =
     AllPass-from_list_all is_listable (names_of c.in-Ok-files_of.set)
     (set-listable c.in-Ok-files_of.set c.in-Ok.applied.desk c.in-Ok-files_of.ensures.again)
 
+pub returns-in-Err-files_of-clause-refused : goal.returns-in-Err-files_of-clause-refused
+returns-in-Err-files_of-clause-refused g c =
+    layout-allows c.args.self.now.desk c.args.command.now c.in-Ok.ensures.accepted
+
+pub returns-in-Err-of_set-clause-refused : goal.returns-in-Err-of_set-clause-refused
+returns-in-Err-of_set-clause-refused g c =
+    layout-allows c.args.self.now.desk c.args.command.now c.in-Ok.ensures.accepted
+
 pub returns-in-Err-prepare-clause-refused : goal.returns-in-Err-prepare-clause-refused
 returns-in-Err-prepare-clause-refused g c =
     layout-allows c.args.self.now.desk c.args.command.now c.in-Ok.ensures.accepted
