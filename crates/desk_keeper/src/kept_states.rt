@@ -16,8 +16,8 @@ use set_text::{TextRefusal, read, write, write_next};
 use std::alloc::{AllocError, Global};
 use std::marker::Model;
 
-/// A policy state with the set of files that stands for it, or with none, as before the first command. Most files of the
-/// next state are taken from that set. It is a copy of its own: the vault's set belongs to the vault.
+/// A policy state with the set of files that stands for it, or with none, as before the first command. Most files of
+/// the next state are taken from that set. It is a copy of its own: the vault's set belongs to the vault.
 #[derive(Drop)]
 pub(crate) struct KeptState {
     desk: Desk,
