@@ -55,10 +55,10 @@ all_more desk (one ∷ answered) more (first, rest) others = (first, all_more de
 pub reads_none : (desk : DeskState) (now : ClientSide) (ahead waiting : List ℕ) → ReadsAt desk now ahead waiting now ahead waiting
 reads_none desk now ahead waiting start met = (met, [], sym (append-nil (met.sent ++ met.unsent)), tt)
 
-pub reads_then : (desk : DeskState) (old between new : ClientSide) (ahead behind rest waiting then after : List ℕ)
-    → ReadsAt desk old ahead waiting between behind then → ReadsAt desk between behind then new rest after
+pub reads_then : (desk : DeskState) (old between new : ClientSide) (ahead behind rest waiting middle after : List ℕ)
+    → ReadsAt desk old ahead waiting between behind middle → ReadsAt desk between behind middle new rest after
     → ReadsAt desk old ahead waiting new rest after
-reads_then desk old between new ahead behind rest waiting then after first second start met =
+reads_then desk old between new ahead behind rest waiting middle after first second start met =
     let one = first start met in
     let two = second start one.0 in (
       two.0,
