@@ -109,7 +109,7 @@ Recalls true text old new =
 Recalls false text old new =
     (new ≡ old)
     × ((asked : Asked) → IsOfNames asked → text ≡ key_text asked → is_ready old ≡ true
-        → answer_in asked old.cache ≡ None)
+    → answer_in asked old.cache ≡ None)
 
 -- the same for a question that is given by its names
 abbrev pub Reuses : Bool → Asked → Client → Client → Type 0
