@@ -1,6 +1,7 @@
 // When what is asked over a connection that was dialled is over.
 ghost use Rattle.std.specs.Prelude.{◌≤◌, length, IfOk};
 
+use crate::faults::Fault;
 use crate::{limits, steps};
 use std::io::{Error, ErrorKind};
 use std::net::Net as HostNet;
@@ -31,7 +32,10 @@ impl<R: HostNet + Clock + Copy + Drop> Deadline<R> {
             return steps::connect(&self.rt, path);
         }
         for _ in 0..steps::MOST_TRIES {
-            let left = self.left()?;
+            let left = match self.left() {
+                Ok(left) => left,
+                Err(fault) => return Err(fault.error()),
+            };
             if let Some(stream) = steps::connect_at_once(&self.rt, path)? {
                 return Ok(stream);
             }
@@ -44,7 +48,7 @@ impl<R: HostNet + Clock + Copy + Drop> Deadline<R> {
     }
 
     /// The next bytes, at the front of the slice, as `steps::receive` gives them.
-    pub fn receive(&self, stream: &mut UnixStream, into: &mut [u8]) -> io::Result<usize>
+    pub fn receive(&self, stream: &mut UnixStream, into: &mut [u8]) -> Result<usize, Fault>
         ensures within { IfOk result (λ count. count ≤ length into.old) }
     {
         if self.over_at.is_none() {
@@ -56,11 +60,11 @@ impl<R: HostNet + Clock + Copy + Drop> Deadline<R> {
                 return Ok(count);
             }
         }
-        Err(Error::from(ErrorKind::TimedOut))
+        Err(Fault::Kind(ErrorKind::TimedOut))
     }
 
     /// Sends all bytes, as `steps::send` does.
-    pub fn send(&self, stream: &mut UnixStream, from: &[u8]) -> io::Result<()> {
+    pub fn send(&self, stream: &mut UnixStream, from: &[u8]) -> Result<(), Fault> {
         if self.over_at.is_none() {
             return steps::send(stream, from);
         }
@@ -71,11 +75,11 @@ impl<R: HostNet + Clock + Copy + Drop> Deadline<R> {
             }
             done += self.send_part(stream, &from[done..])?;
         }
-        Err(Error::from(ErrorKind::TimedOut))
+        Err(Fault::Kind(ErrorKind::TimedOut))
     }
 
     /// Sends a part of the piece, and says how much: nothing where the time is over, or the call was interrupted.
-    pub fn send_part(&self, stream: &mut UnixStream, from: &[u8]) -> io::Result<usize>
+    pub fn send_part(&self, stream: &mut UnixStream, from: &[u8]) -> Result<usize, Fault>
         ensures within { IfOk result (λ count. count ≤ length from.now) }
     {
         if self.over_at.is_some() {
@@ -85,13 +89,13 @@ impl<R: HostNet + Clock + Copy + Drop> Deadline<R> {
     }
 
     // The time that is left, which is some.
-    fn left(&self) -> io::Result<Duration> {
+    fn left(&self) -> Result<Duration, Fault> {
         let Some(over_at) = self.over_at else {
             return Ok(Duration::MAX);
         };
         let left = over_at.saturating_duration_since(Instant::now(&self.rt)?);
         if left.is_zero() {
-            return Err(Error::from(ErrorKind::TimedOut));
+            return Err(Fault::Kind(ErrorKind::TimedOut));
         }
         Ok(left)
     }

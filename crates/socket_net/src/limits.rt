@@ -35,6 +35,10 @@ pub const TICK: u64 = 1_250;
 /// The same for a write, which waits only where a peer doesn't read.
 pub const SENDING_TICK: u64 = 100;
 
+/// The most bytes of a short piece: far fewer than the parts in which the machine takes a long one. So it takes them at
+/// once or not at all, and their write waits for one tick at most.
+pub const SHORT_PIECE: usize = 4_096;
+
 /// How long a link that is asked whether something has come waits for it.
 pub const LOOK: u64 = 100;
 

@@ -1,7 +1,7 @@
 // How a connection is made anew that the service has closed between two messages.
 use crate::deadlines::Deadline;
+use crate::faults::Fault;
 use crate::paths::Path;
-use std::io;
 use std::io::ErrorKind;
 use std::net::Net as HostNet;
 use std::os::unix::net::UnixStream;
@@ -28,14 +28,14 @@ impl Renewal {
         deadline: &Deadline<R>,
         stream: &mut UnixStream,
         from: &[u8],
-    ) -> io::Result<()> {
+    ) -> Result<(), Fault> {
         match deadline.send_part(stream, from) {
             Ok(count) => deadline.send(stream, &from[count..]),
-            Err(e) if e.kind() == ErrorKind::BrokenPipe => {
+            Err(fault) if fault.error().kind() == ErrorKind::BrokenPipe => {
                 *stream = deadline.connect(self.path.as_str())?;
                 deadline.send(stream, from)
             }
-            Err(e) => Err(e),
+            Err(fault) => Err(fault),
         }
     }
 }

@@ -3,11 +3,12 @@ ghost use Rattle.std.specs.Prelude.{◌<◌, ◌≤◌, length, take, IfOk, OnOk
 ghost use Rattle.desk_ports.specs.Content.{Appended};
 
 use crate::commons::Commons;
+use crate::faults::Fault;
 use crate::{limits, steps};
 use link_ports::DoorKind;
 use std::alloc::Global;
 use std::io;
-use std::io::{Error, ErrorKind, Write};
+use std::io::{ErrorKind, Write};
 use std::net::Net as HostNet;
 use std::os::unix::net::UnixStream;
 use std::sync::Arc;
@@ -25,6 +26,8 @@ pub struct Stay<R: HostNet + AllocGlobal + Clock + Copy + Drop> {
     stood_in_line: bool,
     // When the peer was accepted, or when it was last looked whether another waits.
     served_since: Instant,
+    // When it is looked for that again, if ever.
+    look_at: Option<Instant>,
     // Whether a piece was sent to the peer.
     is_answered: bool,
     // Whether bytes came since a piece was last sent: the peer is within a frame, if nothing is sent for them.
@@ -51,44 +54,83 @@ impl<R: HostNet + AllocGlobal + Clock + Copy + Drop> Stay<R> {
         };
         stream.set_read_timeout(Some(Duration::from_millis(tick)))?;
         stream.set_write_timeout(Some(Duration::from_millis(limits::SENDING_TICK)))?;
-        Ok(Stay {
+        let mut stay = Stay {
             rt,
             commons,
             stood_in_line,
             served_since: Instant::now(&rt)?,
+            look_at: None,
             is_answered: false,
             is_heard: false,
             frame_began: None,
             tick,
-        })
+        };
+        stay.set_look();
+        Ok(stay)
     }
 
     /// The next bytes, at the front of the slice. None where the connection was closed, and where it may keep its worker no
     /// longer: then it is closed, and nothing that the peer could send before is lost.
-    pub fn receive(&mut self, stream: &mut UnixStream, into: &mut [u8]) -> io::Result<usize>
+    pub fn receive(&mut self, stream: &mut UnixStream, into: &mut [u8]) -> Result<usize, Fault>
+        ensures within { IfOk result (λ count. count ≤ length into.old) }
+    {
+        if self.is_heard {
+            let count = self.receive_more(stream, into)?;
+            return Ok(count);
+        }
+        let start = self.read_clock()?;
+        if self.is_due(start) && self.has_line(start) {
+            return let_go(stream, into);
+        }
+        if let Some(count) = steps::receive_in_time(stream, into)? {
+            self.is_heard = true;
+            return Ok(count);
+        }
+        let count = self.go_on(stream, start, into)?;
+        Ok(count)
+    }
+
+    // The next bytes within a frame. That they come one by one is no reason to wait for more of them.
+    fn receive_more(&mut self, stream: &mut UnixStream, into: &mut [u8]) -> Result<usize, Fault>
         ensures within { IfOk result (λ count. count ≤ length into.old) }
     {
         let start = self.start()?;
-        if self.is_over_before(start)? {
+        if self.is_over(start)? {
             return let_go(stream, into);
         }
+        if let Some(count) = steps::receive_in_time(stream, into)? {
+            return Ok(count);
+        }
+        let count = self.go_on(stream, start, into)?;
+        Ok(count)
+    }
+
+    // Goes on with a wait that began then, and that has found nothing yet.
+    fn go_on(
+        &mut self,
+        stream: &mut UnixStream,
+        start: Instant,
+        into: &mut [u8],
+    ) -> Result<usize, Fault>
+        ensures within { IfOk result (λ count. count ≤ length into.old) }
+    {
         for _ in 0..steps::MOST_TRIES {
-            if let Some(count) = steps::receive_in_time(stream, into)? {
-                self.is_heard = true;
-                return Ok(count);
-            }
             if self.is_over(start)? {
                 return let_go(stream, into);
             }
             self.set_tick(stream, start)?;
+            if let Some(count) = steps::receive_in_time(stream, into)? {
+                self.is_heard = true;
+                return Ok(count);
+            }
         }
-        Err(Error::from(ErrorKind::Interrupted))
+        Err(Fault::Kind(ErrorKind::Interrupted))
     }
 
     /// Whether a `receive` waits for nothing: bytes came, or the connection was closed, or may keep its worker no longer. Then
     /// it is closed for what the peer may still send, so that the `receive` finds the end behind what was sent before. It waits
     /// for bytes itself, no longer than a look takes. A wait between two frames begins anew with each look.
-    pub fn has_come(&mut self, stream: &mut UnixStream) -> io::Result<bool> {
+    pub fn has_come(&mut self, stream: &mut UnixStream) -> Result<bool, Fault> {
         let start = self.start()?;
         self.tick_by(stream, limits::LOOK)?;
         if steps::has_come(stream)? {
@@ -102,41 +144,62 @@ impl<R: HostNet + AllocGlobal + Clock + Copy + Drop> Stay<R> {
         Ok(true)
     }
 
-    // Whether a wait that is about to begin or to go on, and began then, is to end. Within a frame, since bytes that come one
-    // by one are no reason to wait for more of them; and between two, since a peer that asks without a pause holds its worker
-    // as one that is silent does.
-    fn is_over_before(&mut self, start: Instant) -> io::Result<bool> {
-        if self.is_heard {
-            return self.is_over(start);
+    // Whether another waits for the worker. It is looked for that again in time.
+    fn has_line(&mut self, now: Instant) -> bool {
+        self.served_since = now;
+        self.set_look();
+        self.commons.has_line(&self.rt)
+    }
+
+    // Whether it is to be looked now whether another waits, between two frames: a peer that asks without a pause holds its
+    // worker as one that is silent does.
+    fn is_due(&self, now: Instant) -> bool {
+        match self.look_at {
+            Some(at) => at <= now,
+            None => false,
         }
-        let served = millis(start.duration_since(self.served_since));
-        if !is_reached(self.patience(), served) {
-            return Ok(false);
-        }
-        self.served_since = start;
-        Ok(self.commons.has_line(&self.rt))
+    }
+
+    // Sets when it is looked again: once the peer was served for as long as it may be waited for.
+    fn set_look(&mut self) {
+        self.look_at = match self.patience() {
+            Some(patience) => self
+                .served_since
+                .checked_add(Duration::from_millis(patience)),
+            None => None,
+        };
     }
 
     // When the wait that begins or goes on now began: within a frame, at the first call that found it so.
-    fn start(&mut self) -> io::Result<Instant> {
+    fn start(&mut self) -> Result<Instant, Fault> {
         if !self.is_heard {
-            return Instant::now(&self.rt);
+            return self.read_clock();
         }
         if let Some(began) = self.frame_began {
             return Ok(began);
         }
-        let now = Instant::now(&self.rt)?;
-        self.frame_began = Some(now);
-        Ok(now)
+        let began = self.read_clock()?;
+        self.frame_began = Some(began);
+        Ok(began)
+    }
+
+    // What time it is.
+    #[inline(always)]
+    fn read_clock(&self) -> Result<Instant, Fault> {
+        match Instant::now(&self.rt) {
+            Ok(now) => Ok(now),
+            Err(error) => Err(Fault::of(&error)),
+        }
     }
 
     // For how long a wait goes on that began then, in milliseconds.
-    fn waited(&self, start: Instant) -> io::Result<u64> {
-        Ok(millis(start.elapsed(&self.rt)?))
+    fn waited(&self, start: Instant) -> Result<u64, Fault> {
+        let now = self.read_clock()?;
+        Ok(millis(now.duration_since(start)))
     }
 
     // Whether a wait that began then is to end.
-    fn is_over(&self, start: Instant) -> io::Result<bool> {
+    fn is_over(&self, start: Instant) -> Result<bool, Fault> {
         if self.commons.is_knocked() {
             return Ok(true);
         }
@@ -177,7 +240,7 @@ impl<R: HostNet + AllocGlobal + Clock + Copy + Drop> Stay<R> {
     }
 
     // Has the machine wake the next read when there is something to look at.
-    fn set_tick(&mut self, stream: &UnixStream, start: Instant) -> io::Result<()> {
+    fn set_tick(&mut self, stream: &UnixStream, start: Instant) -> Result<(), Fault> {
         let waited = self.waited(start)?;
         let mut tick = sooner(limits::TICK, self.most(), waited);
         if self.commons.is_taken() {
@@ -187,7 +250,7 @@ impl<R: HostNet + AllocGlobal + Clock + Copy + Drop> Stay<R> {
     }
 
     // Has the machine let a read wait for so many milliseconds.
-    fn tick_by(&mut self, stream: &UnixStream, tick: u64) -> io::Result<()> {
+    fn tick_by(&mut self, stream: &UnixStream, tick: u64) -> Result<(), Fault> {
         if tick == self.tick {
             return Ok(());
         }
@@ -196,21 +259,48 @@ impl<R: HostNet + AllocGlobal + Clock + Copy + Drop> Stay<R> {
         Ok(())
     }
 
-    /// Sends all bytes, or fails: as `steps::send`, and where the peer takes them too slowly.
-    pub fn send<W: Write>(&mut self, stream: &mut W, from: &[u8]) -> io::Result<()>
+    /// Sends all bytes, or fails: as `steps::send`, and where the peer takes them too slowly. The clock is read only for
+    /// a long piece, and where the machine does not take a short one at once.
+    #[tactic(auto, using(crate::proofs::Appending::appended_rest))]
+    pub fn send<W: Write>(&mut self, stream: &mut W, from: &[u8]) -> Result<(), Fault>
         ensures { OnOk result (Appended (W.contents stream.old) from.now (W.contents stream.new)) }
     {
-        self.is_answered = true;
+        if !self.is_answered {
+            self.is_answered = true;
+            self.set_look();
+        }
         self.is_heard = false;
         self.frame_began = None;
-        self.send_in_time(stream, from)
+        if from.len() > limits::SHORT_PIECE {
+            let start = self.read_clock()?;
+            return self.send_since(start, stream, from);
+        }
+        let done = steps::send_part(stream, from)?;
+        if done >= from.len() {
+            return Ok(());
+        }
+        self.send_rest(stream, &from[done..])?;
+        Ok(())
     }
 
-    #[tactic(auto, using(crate::proofs::Appending::appended_more))]
-    fn send_in_time<W: Write>(&self, stream: &mut W, from: &[u8]) -> io::Result<()>
+    // Sends what the first call left of a short piece. That call waited for a tick, so the sending began a tick ago.
+    fn send_rest<W: Write>(&self, stream: &mut W, from: &[u8]) -> Result<(), Fault>
         ensures { OnOk result (Appended (W.contents stream.old) from.now (W.contents stream.new)) }
     {
-        let start = Instant::now(&self.rt)?;
+        let now = self.read_clock()?;
+        let tick = Duration::from_millis(limits::SENDING_TICK);
+        let start = now.checked_sub(tick).unwrap_or(now);
+        if self.is_sending_over(start)? {
+            return Err(Fault::Kind(ErrorKind::TimedOut));
+        }
+        self.send_since(start, stream, from)
+    }
+
+    // Sends all bytes within a sending that began then.
+    #[tactic(auto, using(crate::proofs::Appending::appended_more))]
+    fn send_since<W: Write>(&self, start: Instant, stream: &mut W, from: &[u8]) -> Result<(), Fault>
+        ensures { OnOk result (Appended (W.contents stream.old) from.now (W.contents stream.new)) }
+    {
         let mut done = 0;
         for _ in 0..steps::MOST_TRIES {
             if done >= from.len() {
@@ -218,14 +308,14 @@ impl<R: HostNet + AllocGlobal + Clock + Copy + Drop> Stay<R> {
             }
             done += steps::send_part(stream, &from[done..])?;
             if done < from.len() && self.is_sending_over(start)? {
-                return Err(Error::from(ErrorKind::TimedOut));
+                return Err(Fault::Kind(ErrorKind::TimedOut));
             }
         }
-        Err(Error::from(ErrorKind::Interrupted))
+        Err(Fault::Kind(ErrorKind::Interrupted))
     }
 
     // Whether a sending that began then is to end.
-    fn is_sending_over(&self, start: Instant) -> io::Result<bool> {
+    fn is_sending_over(&self, start: Instant) -> Result<bool, Fault> {
         if self.commons.is_knocked() {
             return Ok(true);
         }
@@ -238,7 +328,9 @@ impl<R: HostNet + AllocGlobal + Clock + Copy + Drop> Stay<R> {
 }
 
 // Ends the connection. What the peer sent before is still given; from then on it can send nothing.
-fn let_go(stream: &mut UnixStream, into: &mut [u8]) -> io::Result<usize>
+#[cold]
+#[inline(never)]
+fn let_go(stream: &mut UnixStream, into: &mut [u8]) -> Result<usize, Fault>
     ensures within { IfOk result (λ count. count ≤ length into.old) }
 {
     // Where the peer closed it before, there is nothing to shut.
