@@ -33,7 +33,7 @@ pub(crate) fn talk<L: Link>(
     requires { (message : message_type.Message) × (sequence : ℕ) × IsDue sequence message machine.old }
     ensures exchanged { (message : message_type.Message) (sequence : ℕ) → IsDue sequence message machine.old
         → Exchanges sequence message (listed (λ replies. replies.items) result) (L.traffic link.old)
-            (L.traffic link.new) }
+        (L.traffic link.new) }
     ensures left { Leaves (IsTrouble (L.marks link.new) (L.faults link.new)) (listed (λ replies. replies.items) result)
         machine.old machine.new }
     ensures ends { (L.marks link.new).ends ≡ (L.marks link.old).ends }

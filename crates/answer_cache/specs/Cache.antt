@@ -70,7 +70,7 @@ newest cache = first_verdict cache.entries
 abbrev pub Recalls : Bool → List ℕ → Cache → Cache → Type 0
 Recalls true text old new =
     (asked : Asked) × IsOfNames asked × (text ≡ key_text asked)
-        × ((verdict : Verdict) × (answer_in asked old ≡ Some verdict))
+    × ((verdict : Verdict) × (answer_in asked old ≡ Some verdict))
     × (new ≡ used asked old)
 Recalls false text old new =
     (new ≡ old) × ((asked : Asked) → IsOfNames asked → text ≡ key_text asked → answer_in asked old ≡ None)

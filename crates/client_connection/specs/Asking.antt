@@ -103,7 +103,7 @@ module _ {L : Type 0} (link_faults : L → ℕ) (marks : L → LinkMarks) (traff
         (length lost ≡ tries) × (is_tried ≡ (before || has_link lost)) × Loses lost old new
     ComesOf tries before entry lost (outcome.Memory error is_tried) old new =
         (length lost < tries) × (link_behind entry lost ≡ None) × (is_tried ≡ (before || has_link lost))
-            × Loses lost old new
+        × Loses lost old new
 
     -- The frame was to be sent with so many tries, on the link that was there, if one was, and this came of it. Whether
     -- it was tried to be sent before.

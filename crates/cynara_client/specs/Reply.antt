@@ -21,11 +21,17 @@ abbrev pub said : Message → Option Said
 said (message.Judged verdict) = Some (record { commit = verdict.commit; answer = Ok (Judged verdict) })
 said (message.FromAgent commit kind number allowed) =
     Some (record { commit = commit; answer = Ok (FromAgent commit kind number allowed) })
-said (message.NotResolved commit kind) = Some (record { commit = commit; answer = Err
-    (refusal.NotResolved commit kind) })
+said (message.NotResolved commit kind) = Some (record {
+  commit = commit;
+  answer = Err
+      (refusal.NotResolved commit kind);
+})
 said (message.NoAgent commit kind) = Some (record { commit = commit; answer = Err (refusal.NoAgent commit kind) })
-said (message.AgentGone commit number) = Some (record { commit = commit; answer = Err
-    (refusal.AgentGone commit number) })
+said (message.AgentGone commit number) = Some (record {
+  commit = commit;
+  answer = Err
+      (refusal.AgentGone commit number);
+})
 said (message.AgentFull commit kind most) =
     Some (record { commit = commit; answer = Err (refusal.AgentFull commit kind most) })
 said other = None

@@ -55,8 +55,10 @@ impl<N: Dial> ClientLink<N> {
 
     /// The commit was acknowledged: no answer is below it from now on.
     pub fn tell(&mut self, commit: u64)
-        ensures { self.new ≡ record self.old { cache = record self.old.cache
-            { told = max self.old.cache.told commit } } }
+        ensures { self.new ≡ record self.old {
+          cache = record self.old.cache
+              { told = max self.old.cache.told commit };
+        } }
     {
         self.machine.tell(commit);
     }

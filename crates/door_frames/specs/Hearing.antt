@@ -25,7 +25,7 @@ HearsMore more old new =
 abbrev pub HandsOut : List ℕ → Framed → Feeding → Feeding → Type 0
 HandsOut more framed old new =
     (bytes : List ℕ) (taken : List Framed) → HasHeard bytes taken old
-        → HasHeard (bytes ++ more) (taken ++ framed ∷ []) new
+    → HasHeard (bytes ++ more) (taken ++ framed ∷ []) new
 
 -- The feeder has failed with this refusal; no frame waits, and what it had heard before it has heard still.
 pub record IsRefused (old new : Feeding) (refusal : WireRefusal) : Type 0 where

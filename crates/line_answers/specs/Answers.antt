@@ -129,7 +129,7 @@ by_fallback_text commit name fallback = verdict_text commit name fallback ++ cod
 unfoldable pub from_agent_text : ℕ → Bool → ℕ → ℕ → List ℕ
 from_agent_text commit allowed kind number =
     decision_text allowed ++ (codes " " ++ (decimal commit ++
-        (codes " agent " ++ (decimal kind ++ (codes " " ++ (decimal number ++ codes "\n"))))))
+    (codes " agent " ++ (decimal kind ++ (codes " " ++ (decimal number ++ codes "\n"))))))
 
 -- a verdict that names an agent's kind, where none was asked
 unfoldable pub not_resolved_text : ℕ → ℕ → List ℕ
@@ -147,7 +147,7 @@ agent_gone_text commit number = codes "agent-gone " ++ (decimal commit ++ (codes
 unfoldable pub agent_full_text : ℕ → ℕ → ℕ → List ℕ
 agent_full_text commit kind most =
     codes "agent-full " ++ (decimal commit ++ (codes " " ++ (decimal kind
-        ++ (codes " " ++ (decimal most ++ codes "\n")))))
+    ++ (codes " " ++ (decimal most ++ codes "\n")))))
 
 -- one policy of a list
 unfoldable pub row_text : List ℕ → List ℕ → List ℕ → Ruling → List ℕ
@@ -241,7 +241,7 @@ store_damaged_text file line = codes "store-damaged " ++ (file ++ (codes " " ++ 
 unfoldable pub question_text : ℕ → List ℕ → List ℕ → List ℕ → Ruling → List ℕ
 question_text number client user privilege result =
     codes "question " ++ (decimal number ++ (codes " " ++ (key_text client user privilege
-        ++ (codes " " ++ (result_text result ++ codes "\n")))))
+    ++ (codes " " ++ (result_text result ++ codes "\n")))))
 
 -- another agent of this kind is there
 unfoldable pub taken_text : ℕ → List ℕ

@@ -39,7 +39,7 @@ verb_text Stop = codes "stop"
 abbrev pub verbs : List Verb
 verbs =
     Set ∷ Check ∷ Unset ∷ Bucket ∷ Drop ∷ Erase ∷ ListRows ∷ From ∷ Layout ∷ User ∷ NoUser ∷ Install ∷ Hybrid ∷ Convert
-        ∷ Remove ∷ Access ∷ Level ∷ Levels ∷ Audit ∷ Share ∷ Unshare ∷ Shares ∷ Status ∷ Stop ∷ []
+    ∷ Remove ∷ Access ∷ Level ∷ Levels ∷ Audit ∷ Share ∷ Unshare ∷ Shares ∷ Status ∷ Stop ∷ []
 
 -- what the first word of a line says
 unfoldable pub verb_at : List ℕ → Option Verb

@@ -29,7 +29,7 @@ use Rattle.admin_client.specs.declared.refusals.AdminRefusal.{AdminRefusal}
 pub data Follows (exchange : Exchange) (framed : Framed) (answer : Step) (old new : Admin) : Type 0 where
   row : IsRow exchange.wanted exchange.sequence exchange.rows framed → answer ≡ step.Row framed.message
       → new ≡ record old { stage = stage.Waiting (with_row exchange) (unheard Replies) }
-          → Follows exchange framed answer old new
+      → Follows exchange framed answer old new
   last : IsLast exchange.wanted exchange.sequence exchange.rows framed → answer ≡ step.Reply framed.message
       → new ≡ record old { stage = stage.Idle } → Follows exchange framed answer old new
   wrong : (found : Fault) → IsWrong exchange.wanted exchange.sequence exchange.rows framed found

@@ -29,8 +29,10 @@ gives_up true is_tried asking made old new = (made ≡ tried.Over fault.Unavaila
     × (new ≡ raised is_tried (forgotten old))
 gives_up false is_tried asking made old new =
     (made ≡ tried.Again)
-    × (new ≡ record (forgotten old) { stage = stage.Dialling
-        (with_tries (asking.tries - 1) (record asking { is_tried = is_tried })) })
+    × (new ≡ record (forgotten old) {
+      stage = stage.Dialling
+          (with_tries (asking.tries - 1) (record asking { is_tried = is_tried }));
+    })
 
 module _ {L : Type 0} (link_faults : L → ℕ) (marks : L → LinkMarks) where
   module _ {N : Type 0} (faults dials : N → ℕ) (given_back : N → Option (List L)) where
