@@ -1,6 +1,6 @@
 -- Checks that are read where they stand.
 use Rattle.std.proofs.Common.{◌≡◌, ℕ, ◌-◌, Bool, true, false, ◌==◌, if◌then◌else◌, List, [], ◌∷◌, ◌++◌, length, take, drop, Option, refl, sym}
-use Rattle.std.proofs.Common.{◌∙◌, None, ap, subst, append_assoc, append-nil, arith}
+use Rattle.std.proofs.Common.{◌∙◌, None, Result, Ok, Err, MatchResult, Bor, ap, subst, append_assoc, append-nil, arith}
 use Rattle.std.specs.List.{AllByRecursion}
 use Rattle.std.proofs.lemmas.List.{take_all, length-drop}
 use Rattle.cynara_keys.specs.PolicyResult.{is_agent}
@@ -22,10 +22,10 @@ use Rattle.door_frames.specs.declared.endings.Ended.TheVariants.{Memory}
 use Rattle.client_door.specs.Check.{framed_of, message_of}
 use Rattle.client_door.specs.Reading.{cause_at, reading}
 use Rattle.client_door.specs.InPlace.{Rules}
-use Rattle.client_door.specs.Recording.{Recording, judged_by}
+use Rattle.client_door.specs.Recording.{Recording, Leads, judged_by}
 use Rattle.client_door.specs.Serving.{ClientSide}
 use Rattle.client_door.specs.Answered.{Answered}
-use Rattle.client_door.specs.parts.Talk.{HeardUpTo, Meets, ReadsAt, EndsReading, IsReadNow, Notes}
+use Rattle.client_door.specs.parts.Talk.{HeardUpTo, Meets, ReadsAt, EndsReading, IsReadNow, Notes, with_read}
 use Rattle.client_door.specs.declared.checks.Check.{Check}
 use Rattle.client_door.specs.declared.judging.Ruling.TheVariants.{Ruled}
 use Rattle.client_door.proofs.Ending.{ends_for_memory_by, tells_up_to}
@@ -85,6 +85,41 @@ pub ends_from : (desk : DeskState) (old : ClientSide) (seat : SeatState) (new : 
     → EndsReading (record old { seat = seat }) ahead waiting new ended → EndsReading old ahead waiting new ended
 ends_from desk old seat new ahead waiting ended same goes_on now_read ends start met =
     ends start (reseated start old seat desk (HeardUpTo ahead) waiting [] same goes_on now_read met)
+
+-- what was read of a piece, or that it ended
+pub piece_from : {S E : Type 0} (Was Is : S → Option Recording → Type 0) (result : Result (Bor (List ℕ)) E) (desk : DeskState)
+    (side : ClientSide) (old new : SeatState) (piece waiting after : List ℕ)
+    → new ≡ record old { seen = new.seen } → GoesOn old.seen new.seen → IsReadNow desk new
+    → MatchResult result
+    (λ rest. Leads Was Is (λ before told. ReadsAt desk (with_read side new before) piece waiting (with_read side new told) rest.now after))
+    (λ _. Leads Was Is (λ before told. EndsReading (with_read side new before) piece waiting (with_read side new told) Memory))
+    → MatchResult result
+    (λ rest. Leads Was Is (λ before told. ReadsAt desk (with_read side old before) piece waiting (with_read side new told) rest.now after))
+    (λ _. Leads Was Is (λ before told. EndsReading (with_read side old before) piece waiting (with_read side new told) Memory))
+piece_from Was Is (Ok rest) desk side old new piece waiting after same goes_on now_read reads = λ since before fits.
+    let told = reads since before fits in (
+      told.0,
+      told.1,
+      reads_from desk (with_read side old before) new (with_read side new told.0) piece rest.now waiting after same goes_on now_read told.2,
+    )
+piece_from Was Is (Err error) desk side old new piece waiting after same goes_on now_read ends = λ since before fits.
+    let told = ends since before fits in (
+      told.0,
+      told.1,
+      ends_from desk (with_read side old before) new (with_read side new told.0) piece waiting Memory same goes_on now_read told.2,
+    )
+
+-- What holds of the values that a call was lent, and of those that it left, holds of those in whose place they stood.
+pub as_lent : {A B C : Type 0} (Is : A → B → C → B → C → Type 0) (shown desk : A) (one first : B) (other second : C)
+    (one_left first_left : B) (other_left second_left : C)
+    → shown ≡ desk → one ≡ first → other ≡ second → one_left ≡ first_left → other_left ≡ second_left
+    → Is shown one other one_left other_left → Is desk first second first_left second_left
+as_lent Is shown desk one first other second one_left first_left other_left second_left shows lends lends_other leaves leaves_other is =
+    subst (λ x. Is desk first second first_left x) leaves_other
+    (subst (λ x. Is desk first second x other_left) leaves
+    (subst (λ x. Is desk first x one_left other_left) lends_other
+    (subst (λ x. Is desk x other one_left other_left) lends
+    (subst (λ x. Is x one other one_left other_left) shows is))))
 
 -- the check at the front is answered by the policies
 pub answers_front : (now : ClientSide) (recording : Option Recording) (ahead behind waiting after : List ℕ) (check : Check)

@@ -1,6 +1,7 @@
 // The checks of a connection, answered in turn.
 ghost use Rattle.std.specs.Prelude.{◌≡◌, ◌<◌, ◌≤◌, [], length, take, None, MatchResult, IfOk, OnOk};
 ghost use Rattle.desk_state.specs.DeskState.{DeskState};
+ghost use Rattle.live_desk.specs.Seat.{SeatState};
 ghost use Rattle.wire_fields.specs.declared.operations.Heard.TheVariants.{AtClient};
 ghost use Rattle.wire_reading.specs.Stream.{unfed};
 ghost use Rattle.door_frames.specs.Hearing.{IsSound};
@@ -182,9 +183,14 @@ impl Talk {
             rt,
             &mut self.outbox,
             recorder,
-            move |desk: &DeskCopy, scratch: &mut Scratch, outbox: &mut Outbox, recorder: &mut M| {
-                answer_at_one_state(desk, scratch, outbox, recorder, piece)
-            },
+            // proof: the clause that is inferred for it gets no proof where a value of a type parameter is lent.
+            move |desk: &DeskCopy, scratch: &mut Scratch, outbox: &mut Outbox, recorder: &mut M|
+                ensures { (side : ClientSide) (seat : SeatState) → IsReadNow desk.now seat → MatchResult result
+                    (λ rest. Leads (M.fits recorder.old) (M.fits recorder.new) (λ before after. ReadsAt desk.now
+                    (with_read side seat before) piece.entry.now outbox.old (with_read side seat after) rest.now outbox.new))
+                    (λ _. Leads (M.fits recorder.old) (M.fits recorder.new) (λ before after. EndsReading
+                    (with_read side seat before) piece.entry.now outbox.old (with_read side seat after) Memory)) }
+            { answer_at_one_state(desk, scratch, outbox, recorder, piece) },
         )
     }
 }

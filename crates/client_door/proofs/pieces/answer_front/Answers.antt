@@ -24,7 +24,7 @@ returns-in-Ok g c side seat ahead behind now_read first since before fits =
     (subst (λ (read : Reading). Rules c.args.check.now.sequence read c.args.outbox.now c.judge.new.self c.judge.result) seen
     c.judge.ensures) in
     let (verdict, is, put, at, allowed) = rules in
-    let tells = subst (λ (outcome : Outcome). g.M.Records.Kept.tells c.of-kept.result (answer_of outcome).cause)
+    let tells = subst (λ (outcome : Outcome). g.M.Kept.Keeps.tells c.of-kept.result (answer_of outcome).cause)
     c.verdict-verdict.ensures.answer c.of-kept.ensures in
     let told = c.in-Ok.ensures (cause_at c.args.desk.now c.args.check.now.question) tells since before fits in (
       told.0,
@@ -36,8 +36,8 @@ returns-in-Ok g c side seat ahead behind now_read first since before fits =
           put first,
     )
 
-pub returns-in-Err : goal.returns-in-Err
-returns-in-Err g c side seat ahead behind now_read first since before fits =
+pub returns-in-Ruled : goal.returns-in-Ruled
+returns-in-Ruled g c side seat ahead behind now_read first since before fits =
     let told = c.in-Err.ensures since before fits in (
       before,
       subst (λ (recording : Option Recording). g.M.Records.fits c.note.new.self since recording) told.2 told.1,
