@@ -25,7 +25,7 @@ use Rattle.client_door.specs.InPlace.{Rules}
 use Rattle.client_door.specs.Recording.{Recording, Leads, judged_by}
 use Rattle.client_door.specs.Serving.{ClientSide}
 use Rattle.client_door.specs.Answered.{Answered}
-use Rattle.client_door.specs.parts.Talk.{HeardUpTo, Meets, ReadsAt, EndsReading, IsReadNow, Notes, with_read}
+use Rattle.client_door.specs.parts.Talk.{HeardUpTo, ReadsAt, EndsReading, IsReadNow, Notes, with_read}
 use Rattle.client_door.specs.declared.checks.Check.{Check}
 use Rattle.client_door.specs.declared.judging.Ruling.TheVariants.{Ruled}
 use Rattle.client_door.proofs.Ending.{ends_for_memory_by, tells_up_to}

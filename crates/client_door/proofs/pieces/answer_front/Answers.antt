@@ -1,4 +1,4 @@
-use Rattle.std.proofs.Common.{◌≡◌, Option, refl, subst, sym}
+use Rattle.std.proofs.Common.{◌≡◌, Option, subst}
 use Rattle.bucket_eval.specs.Evaluation.{Outcome}
 use Rattle.bucket_eval.specs.Found.{answer_of}
 use Rattle.bucket_eval.specs.Lent.{outcome_lent}
