@@ -16,8 +16,8 @@ use Rattle.admin_door.proofs.admin_loops.serve.Goals as goal
 pub loop-init : goal.loop-init
 loop-init g c =
     let start = talk_of
-    (side_of g.D.Disk.faults c.args.keeper.now c.args.publisher.now (g.A.Hall.tally c.args.hall.now) (g.A.Hall.calls c.args.hall.now))
-    (g.L.Link.traffic c.args.link.now) (g.L.Link.marks c.args.link.now) (g.L.Link.faults c.args.link.now) in
+    (side_of g.D.Disk.faults c.args.keeper.now (g.P.KeptPublisher.states c.args.publisher.now) (g.A.Hall.tally c.args.hall.now) (g.A.Hall.calls c.args.hall.now))
+    (g.L.DueLink.traffic c.args.link.now) (g.L.DueLink.marks c.args.link.now) (g.L.DueLink.faults c.args.link.now) in
     let Keeps : List Exchange → Type 0 =
     RunsOver g.D.Disk.state g.D.Disk.moment g.D.Disk.left_since c.args.keeper.now c.args.keeper.now in (
       subst (λ (feeder : Feeding). Stands start start feeder Keeps) (sym c.new-feeder.ensures)
@@ -28,5 +28,5 @@ loop-init g c =
       refl,
       c.requires,
       refl,
-      hangs_none c.args.publisher.now c.args.hangs.now,
+      hangs_none (g.P.KeptPublisher.states c.args.publisher.now) c.args.hangs.now,
     )
