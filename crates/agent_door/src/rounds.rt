@@ -175,11 +175,11 @@ fn take_turn<L: Link, A: AgentHall<L>>(
     match feeder.answer_in_time(link, room) {
         Ok(Some(heard)) => {
             let kind = registration.kind;
-            let told = heard.given();
+            let given = heard.given();
             if let Err(ended) = hand_in(hall, link, frame, kind, heard) {
                 return Err(ended);
             }
-            return Ok(told.number == number);
+            return Ok(given.number == number);
         }
         Ok(None) => match look(hall, link, frame, number) {
             Ok(is_closed) => return Ok(is_closed),
@@ -236,14 +236,13 @@ fn hand_in<L: Link, A: AgentHall<L>>(
         × Carried (L.traffic link.old) (L.traffic link.new) [] []) }
     ensures marks { L.marks link.new ≡ L.marks link.old }
 {
-    let told = heard.given();
+    let given = heard.given();
     match hall.answer(kind, heard) {
         Ok(()) => Ok(()),
         Err(_) => {
-            let message = Message::UnknownNumber {
-                number: told.number,
-            };
-            match send(link, frame, told.sequence, message) {
+            let number = given.number;
+            let message = Message::UnknownNumber { number };
+            match send(link, frame, given.sequence, message) {
                 Ok(()) => Ok(()),
                 Err(ended) => Err(ended),
             }

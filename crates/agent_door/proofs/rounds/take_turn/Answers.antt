@@ -30,7 +30,7 @@ returns-in-Ok-Some-clause-turn g c =
     (agent_side (g.A.AgentHall.tally c.hand_in.new.hall) (g.A.AgentHall.calls c.hand_in.new.hall) (g.L.Link.traffic c.hand_in.new.link)
     (g.L.Link.marks c.hand_in.new.link) (g.L.Link.faults c.hand_in.new.link))
     (g.L.Link.traffic c.answer_in_time.new.link) c.args.feeder.now c.answer_in_time.new.self c.args.number c.in-Ok-Some.heard handed.0
-    taken.0 _ (ap (λ (answer : Answer). answer.number == c.args.number) c.given.ensures) heard taken.1 handed.2.0 handed.1
+    taken.0 _ (ap (λ (answer : Answer). answer.number == c.args.number) c.given-given.ensures) heard taken.1 handed.2.0 handed.1
     (subst (λ count. g.L.Link.faults c.args.link.now ≤ count) (sym handed.2.1) c.in-Ok-Some.ensures.faults)
     (ap (λ (marks : LinkMarks). marks.ends) c.hand_in.ensures.marks ∙ c.answer_in_time.ensures.ends)
 
