@@ -76,7 +76,6 @@ pub fn admin_loop<
 }
 
 // The same. What follows of it on what was published is told by its caller.
-#[tactic(auto, using(crate::proofs::Hanging::hangs_then, crate::proofs::Hanging::hangs_none))]
 fn serve<
     R: Wait,
     D: Disk,
