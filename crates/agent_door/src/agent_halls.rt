@@ -80,7 +80,21 @@ impl<L: Link, A: Hall> AgentHall<L> for A {
         Hall::next(self, kind, link)
     }
 
-    fn answer(&mut self, kind: Kind, heard: HeardAnswer<L>) -> Result<(), AnswerRefusal> {
+    fn answer(&mut self, kind: Kind, heard: HeardAnswer<L>) -> Result<(), AnswerRefusal>
+        requires { IsTrue (is_agent kind.0) }
+        ensures tally { A.tally self.new ≡ after_answer (record {
+          kind = kind;
+          number = heard.number;
+          allowed = heard.allowed;
+          result = result;
+        }) (A.tally self.old) }
+        ensures calls { AppendsCalls (A.calls self.old) (call.HallCall.Answer (record {
+          kind = kind;
+          number = heard.number;
+          allowed = heard.allowed;
+          result = result;
+        }) ∷ []) (A.calls self.new) }
+    {
         let given = heard.given();
         Hall::answer(self, kind, given.number, given.allowed)
     }
