@@ -39,7 +39,8 @@ pieces-preserved-in-More g c = (tt, tt, (c.pieces.invariant.2.0, goes-on c.piece
 
 pub pieces-preserved : goal.pieces-preserved
 pieces-preserved g c =
-    (tt, tt, follows-on c.pieces.invariant.2.1 c.in-Whole.ensures c.follow-followed.ensures c.in_default-followed.value c.in_default-followed.is)
+    (tt, tt, follows-on c.pieces.invariant.2.1 c.in-Whole.ensures c.follow-followed.ensures c.in_default-followed.field-0
+    c.in_default-followed.is)
 
 pub returns-in-Err-followed : goal.returns-in-Err-followed
 returns-in-Err-followed g c =
