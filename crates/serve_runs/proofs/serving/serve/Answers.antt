@@ -11,7 +11,7 @@ beside-end-requires-send-K g c κs within = search (sendable, worker_row_send) d
 
 pub beside-end-requires-sync-F : goal.beside-end-requires-sync-F
 beside-end-requires-sync-F g c κs within =
-    search (sendable, crosses, roll_lock_sync, questions_sync, muster_sync, alarm_sync) depth 120
+    search (sendable, crosses, roll_lock_sync, questions_sync, muster_sync, alarm_sync) depth 30
 
 pub returns-clause-workers : goal.returns-clause-workers
 returns-clause-workers g c =
