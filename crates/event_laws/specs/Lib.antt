@@ -1,0 +1,4 @@
+pub mod Happens
+pub mod Service
+pub mod Store
+pub mod Worker

@@ -1,0 +1,16 @@
+//! The calls of a running service and the events of the world of `desk_world`: a law for each event, which says that the clause of
+//! its call makes it enabled, and that the world behind it stands for what the call left. What stands for what is `StandsFor`. The
+//! functions do nothing; their clauses are the laws.
+#![tactic(auto)]
+
+mod commits;
+mod connections;
+mod workers;
+
+pub use commits::{
+    a_commit_is_stored, a_command_that_is_done_was_stored_and_shown, a_failed_commit_is_undecided,
+    a_publication_is_an_event, a_remount_decides, a_start_is_behind_a_stop, what_is_answered_as_done_is_acknowledged,
+    what_is_settled_is_acknowledged,
+};
+pub use connections::{a_disconnect_is_an_event, an_entry_is_an_event, who_leaves_is_disconnected};
+pub use workers::{a_check_is_read, a_reply_is_written, an_answer_of_an_agent_is_written};
