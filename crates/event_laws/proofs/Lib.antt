@@ -6,3 +6,4 @@ pub mod Storing
 pub mod Acknowledging
 pub mod Starting
 pub mod Serving
+pub mod Caches

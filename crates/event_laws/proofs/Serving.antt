@@ -26,7 +26,7 @@ use Rattle.desk_world.specs.declared.links.Reading.{Reading}
 use Rattle.desk_world.specs.declared.links.Reading.TheVariants.{Nothing, Ready, Due, Waiting}
 use Rattle.desk_world.specs.declared.replies.Reply.{Reply}
 use Rattle.event_laws.specs.Happens.{Happens}
-use Rattle.event_laws.specs.Service.{StandsFor}
+use Rattle.event_laws.specs.Service.{StandsFor, unpublished}
 use Rattle.event_laws.specs.Worker.{HasCheck, once_read, once_sent}
 use Rattle.event_laws.proofs.Enabled.{some_enabled, when_enabled, happens}
 use Rattle.event_laws.proofs.Ends.{ends_relinked}
@@ -61,7 +61,8 @@ module _ {H : Type 0} (used : H → Bool) (link_of : ℕ → ℕ) (roll : RollSt
   reads ask low seen one more has nothing le goes_on (in_seen, may, others) =
       let changed = once_read one.check one.desk found in
       let next = with_link link changed world in
-      let here = stands_at world.first world.later stands.committed.earlier side.published _ one.desk stands.kept.chain
+      let here = stands_at world.first world.later stands.committed.earlier side.published
+      (unpublished side.desk side.published) one.desk stands.kept.chain
       stands.committed.all (stands_in_more one.desk seen side.published in_seen goes_on) in
       let grown = last_of_more seen side.published stands.rising goes_on in
       let fresh = may_read_here found.seen low (last_commit 0 seen) world.published one.desk.commit le

@@ -2,3 +2,4 @@ pub mod Happens
 pub mod Service
 pub mod Store
 pub mod Worker
+pub mod Caching

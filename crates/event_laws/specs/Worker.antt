@@ -1,16 +1,13 @@
 -- How a worker of clients stands for a connection of the world.
-use Rattle.std.specs.Prelude.{◌≡◌, ◌≤◌, ℕ, true, List, Option, Some, None, slice_get}
+use Rattle.std.specs.Prelude.{◌≡◌, ℕ, Some, None, slice_get}
 use Rattle.desk_state.specs.DeskState.{DeskState}
-use Rattle.server_hall.specs.declared.refusals.AskRefusal.TheVariants.{Gone as HasGone}
 use Rattle.client_door.specs.Answered.{Answered}
 use Rattle.client_door.specs.Reading.{reading}
 use Rattle.client_door.specs.declared.checks.Check.{Check}
-use Rattle.desk_world.specs.World.{World, with_link}
+use Rattle.desk_world.specs.World.{World}
 use Rattle.desk_world.specs.declared.links.Asked.{Asked}
 use Rattle.desk_world.specs.declared.links.Link.{Link}
-use Rattle.desk_world.specs.declared.links.Reading.{Reading}
 use Rattle.desk_world.specs.declared.links.Reading.TheVariants.{Nothing}
-use Rattle.desk_world.specs.declared.links.Transit.{Transit}
 use Rattle.desk_world.specs.declared.replies.Reply.{Reply}
 
 -- the connection, which has entered, has this check to be answered, of this ask

@@ -3,10 +3,15 @@
 //! functions do nothing; their clauses are the laws.
 #![tactic(auto)]
 
+mod clients;
 mod commits;
 mod connections;
 mod workers;
 
+pub use clients::{
+    a_closed_connection_is_noticed, a_hit_is_an_event, a_received_reply_is_an_event,
+    a_told_commit_is_an_event,
+};
 pub use commits::{
     a_commit_is_stored, a_command_that_is_done_was_stored_and_shown, a_failed_commit_is_undecided,
     a_publication_is_an_event, a_remount_decides, a_start_is_behind_a_stop, what_is_answered_as_done_is_acknowledged,
