@@ -40,17 +40,17 @@ use Rattle.event_laws.proofs.Enabled.{some_enabled, when_enabled}
 module _ {K X : Type 0} (P : K × X → Type 0) (test : K → Bool) where
   pub all_removed : (entries : List (K × X)) → AllByRecursion P entries → AllByRecursion P (remove_entry test entries)
   all_removed [] all = tt
-  all_removed (e ∷ es) all = by_case (test e.0) where
-    by_case : (b : Bool) → AllByRecursion P (cond b es (e ∷ remove_entry test es))
-    by_case true = all.1
-    by_case false = (all.0, all_removed es all.1)
+  all_removed (e ∷ es) all = by_case (all_removed es all.1) (test e.0) where
+    by_case : AllByRecursion P (remove_entry test es) → (b : Bool) → AllByRecursion P (cond b es (e ∷ remove_entry test es))
+    by_case rest true = all.1
+    by_case rest false = (all.0, rest)
 
   found_holds : (entries : List (K × X)) (e : K × X) → AllByRecursion P entries → lookup_entry test entries ≡ Some e → P e
   found_holds [] e all is = absurd (none-some e is)
-  found_holds (x ∷ xs) e all is = by_case (test x.0) is where
-    by_case : (b : Bool) → cond b (Some x) (lookup_entry test xs) ≡ Some e → P e
-    by_case true is = subst P (same_Some x e is) all.0
-    by_case false is = found_holds xs e all.1 is
+  found_holds (x ∷ xs) e all is = by_case (found_holds xs e all.1) (test x.0) is where
+    by_case : (lookup_entry test xs ≡ Some e → P e) → (b : Bool) → cond b (Some x) (lookup_entry test xs) ≡ Some e → P e
+    by_case rest true is = subst P (same_Some x e is) all.0
+    by_case rest false is = rest is
 
   pub all_promoted : (entries : List (K × X)) → AllByRecursion P entries → AllByRecursion P (promoted test entries)
   all_promoted entries all = by_case (lookup_entry test entries) refl where
@@ -69,10 +69,10 @@ module _ {K X : Type 0} (P : K × X → Type 0) (test : K → Bool) where
   pub looked_up : (entries : List (K × X)) (x : X) → AllByRecursion P entries → lookup test entries ≡ Some x
       → (key : K) × (test key ≡ true) × P (key, x)
   looked_up [] x all is = absurd (none-some x is)
-  looked_up (e ∷ es) x all is = by_case (test e.0) refl is where
-    by_case : (b : Bool) → test e.0 ≡ b → cond b (Some e.1) (lookup test es) ≡ Some x → (key : K) × (test key ≡ true) × P (key, x)
-    by_case true passes is = (e.0, passes, subst (λ (v : X). P (e.0, v)) (same_Some e.1 x is) all.0)
-    by_case false passes is = looked_up es x all.1 is
+  looked_up (e ∷ es) x all is = by_case (looked_up es x all.1) (test e.0) refl is where
+    by_case : (lookup test es ≡ Some x → (key : K) × (test key ≡ true) × P (key, x)) → (b : Bool) → test e.0 ≡ b → cond b (Some e.1) (lookup test es) ≡ Some x → (key : K) × (test key ≡ true) × P (key, x)
+    by_case rest true passes is = (e.0, passes, subst (λ (v : X). P (e.0, v)) (same_Some e.1 x is) all.0)
+    by_case rest false passes is = rest is
 
 all_more : {E : Type 0} (P Q : E → Type 0) → ((e : E) → P e → Q e) → (es : List E) → AllByRecursion P es → AllByRecursion Q es
 all_more P Q more [] all = tt

@@ -48,8 +48,8 @@ module _ {H : Type 0} (used : H → Bool) (link_of : ℕ → ℕ) (workers : ℕ
       happens (Stop command kept_it) before (restarted world) (StandsFor used link_of roll side) kept enabled
       (λ kept. record {
         kept = kept;
-        note = commit ∙ sym started.roll.note;
-        ends = ends_none used link_of (restarted world).run roll.places (restarted world).links started.roll.vacant;
+        note = commit ∙ sym started.registry.note;
+        ends = ends_none used link_of (restarted world).run roll.places (restarted world).links started.registry.vacant;
         published = commit ∙ sym (ap (last_commit 0) started.published);
         rising = subst (λ (list : List DeskState). Rises list) (sym started.published) tt;
         committed = let all = with_this world same in record { earlier = all.earlier; all = all.all };

@@ -14,8 +14,8 @@ use Rattle.desk_world.specs.declared.links.Link.{Link}
 
 -- An end in the registry is that of this connection: it entered at the commit of the end, in this run of the service, and is closed
 -- where the end was used.
-pub record IsEndOf {H : Type 0} (used : H → Bool) (run : ℕ) (entry : Entry H) (link : Link) : Type 0 where
-  pub run : link.run ≡ run
+pub record IsEndOf {H : Type 0} (used : H → Bool) (current : ℕ) (entry : Entry H) (link : Link) : Type 0 where
+  pub run : link.run ≡ current
   pub entered : link.entered ≡ Some entry.entered
   pub hung : used entry.end ≡ true → link.up ≡ false
 

@@ -22,7 +22,7 @@ IsLeftBehind side world desk = IsFoundAs side world desk ⊎ IsBegun side world 
 
 -- a service that has just been started with this state: that alone is published, and nobody stands in the registry
 pub record IsStarted {H : Type 0} (desk : DeskState) (workers : ℕ) (roll : RollState H) (side : AdminSide) : Type 0 where
-  pub roll : IsNew desk.commit workers roll
+  pub registry : IsNew desk.commit workers roll
   pub published : side.published ≡ desk ∷ []
   pub kept : side.desk ≡ desk
   pub decided : side.decided ≡ true
