@@ -13,6 +13,7 @@ mod seats;
 mod starting;
 mod verdicts;
 
+pub use copies::DeskCopy;
 pub use live_roll::{Event, Left, MOST_SEATS, Roll, Seated, Stopped};
 pub use publishers::{Publisher, Ready};
 pub use seats::Seat;

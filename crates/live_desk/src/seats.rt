@@ -5,6 +5,8 @@ ghost use Rattle.live_desk.specs.History.{GoesOn};
 ghost use Rattle.live_desk.specs.Copies.{latest};
 ghost use Rattle.live_desk.specs.Seat.{with_note, HasSeen, IsFrom, Answers, IsTold, Tells};
 
+mod holding;
+
 use crate::copies::Published;
 use crate::running::{Running, Steps};
 use crate::verdicts::BorrowedVerdict;
