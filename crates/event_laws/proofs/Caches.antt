@@ -1,5 +1,5 @@
 -- What a client that keeps its answers does is an event.
-use Rattle.std.proofs.Common.{◌≡◌, ◌⊎◌, inl, inr, ◌∙◌, ◌<◌, ◌≤◌, ◌&&◌, ◌-◌, ◌==◌, ◌++◌, not, ℕ, zero, suc, Bool, true, false, cond, List, [], ◌∷◌, length, take, max, Option, Some, None, Result, Ok, refl, sym, ap, subst, arith}
+use Rattle.std.proofs.Common.{◌≡◌, ◌⊎◌, inl, inr, ◌∙◌, ◌<◌, ◌≤◌, ◌&&◌, ◌-◌, ◌==◌, ◌++◌, not, ℕ, zero, suc, Bool, true, false, cond, List, [], ◌∷◌, length, take, max, Option, Some, None, Result, Ok, Err, refl, sym, ap, subst, arith}
 use Rattle.std.specs.Prelude.{slice_get, nat_le, MatchBool}
 use Rattle.std.specs.List.{AllByRecursion}
 use Rattle.std.specs.Map.{lookup, lookup_entry, remove_entry}
@@ -12,12 +12,12 @@ use Rattle.cynara_keys.specs.Key.{Question, same_question as same_key_question}
 use Rattle.cynara_keys.proofs.Order.{same_text-≡, ≡-same_text}
 use Rattle.cynara_keys.specs.PolicyResult.{is_agent}
 use Rattle.bucket_eval.specs.declared.answers.Verdict.{Verdict}
-use Rattle.answer_cache.specs.Cache.{Asked as CacheKey, Cache, same_asked, answer_in, if_not_older, used, kept as kept_in, without}
-use Rattle.cynara_client.specs.State.{State, emptied}
-use Rattle.cynara_client.specs.Checking.{IsKept as IsKeptBy, IsKeptOf}
+use Rattle.answer_cache.specs.Cache.{Asked as CacheKey, Cache, empty_cache, same_asked, answer_in, if_not_older, used, kept as kept_in, without}
+use Rattle.cynara_client.specs.State.{emptied}
 use Rattle.cynara_client.specs.declared.refusals.Checked.{Checked}
+use Rattle.cynara_client.specs.declared.refusals.ClientRefusal.{ClientRefusal}
 use Rattle.cynara_client.specs.declared.refusals.Checked.TheVariants.{Judged as ByPolicies, FromAgent as ByAgent}
-use Rattle.desk_world.specs.Client.{Client}
+use Rattle.desk_world.specs.Client.{Client, unnamed}
 use Rattle.desk_world.specs.World.{World, client_in, client_of, with_client, put_client}
 use Rattle.desk_world.specs.Clients.{same_question, given, hit_in, kept, deliver_to, delivered, received}
 use Rattle.desk_world.specs.Events.{after}
@@ -32,7 +32,7 @@ use Rattle.desk_world.specs.declared.replies.Reply.TheVariants.{Judged, FromAgen
 use Rattle.desk_world.proofs.Keeping.{client-put}
 use Rattle.desk_world.proofs.Lists.{get-append, get-end}
 use Rattle.event_laws.specs.Happens.{Happens}
-use Rattle.event_laws.specs.Caching.{IsReceived, CacheStands, IsAsking, Says}
+use Rattle.event_laws.specs.Caching.{IsReceived, CacheStands, IsAsking, Says, KeepsBehind}
 use Rattle.event_laws.proofs.Enabled.{some_enabled, when_enabled}
 
 -- ---- entries of a cache
@@ -137,34 +137,36 @@ module _ (world : World) (client ask link : ℕ) (found : Link) (key : CacheKey)
       let place = entry.2.0 in
       let next = given client ask found.run (Judged verdict) world in
       let recent = ap (λ (told : ℕ). nat_le told verdict.commit) stands.told ∙ found_so.1 in
-      let changed : Client = record (client_of world client) { asking = None } in
-      (place, record {
-        next = next;
-        enabled = some_enabled (client_of world client).asking ask _ next asking.asking
-            (some_enabled (slice_get world.asks ask) asking.asked _ next asking.asks
-            (some_enabled (client_of world client).link link _ next asking.holds
-            (some_enabled (slice_get world.links link) found _ next asking.there
-            (some_enabled (slice_get (client_of world client).log place) known _ next entry.2.1
-            (when_enabled _ next
-            (and_from found.up (same_question known.question asking.asked.question && nat_le (client_of world client).told verdict.commit) up
-            (and_from (same_question known.question asking.asked.question) (nat_le (client_of world client).told verdict.commit)
-            (asked_same key entry.0 asking.asked.question entry.1 asking.same) recent)))))));
-        behind = (
-          refl,
-          stands_put (used key cache) client changed world.clients
-              (record {
-                told = stands.told;
-                received = all_promoted (IsReceived (client_of world client).log) (same_asked key) cache.entries stands.received;
-              }),
-        );
-      })
+      let changed : Client = record (client_of world client) { asking = None } in (
+        place,
+        record {
+          next = next;
+          enabled = some_enabled (client_of world client).asking ask _ next asking.asking
+              (some_enabled (slice_get world.asks ask) asking.asked _ next asking.asks
+              (some_enabled (client_of world client).link link _ next asking.holds
+              (some_enabled (slice_get world.links link) found _ next asking.there
+              (some_enabled (slice_get (client_of world client).log place) known _ next entry.2.1
+              (when_enabled _ next
+              (and_from found.up (same_question known.question asking.asked.question && nat_le (client_of world client).told verdict.commit) up
+              (and_from (same_question known.question asking.asked.question) (nat_le (client_of world client).told verdict.commit)
+              (asked_same key entry.0 asking.asked.question entry.1 asking.same) recent)))))));
+          behind = (
+            refl,
+            stands_put (used key cache) client changed world.clients
+                (record {
+                  told = stands.told;
+                  received = all_promoted (IsReceived (client_of world client).log) (same_asked key) cache.entries stands.received;
+                }),
+          );
+        },
+      )
 
   -- ---- a reply
 
-  pub receives : (old new : Cache) (checked : Checked) (transit : Transit) → CacheStands old (client_of world client)
-      → found.reply ≡ Some transit → transit.ask ≡ ask → Says transit.reply checked → IsKeptOf key checked old new
+  pub receives : (old new : Cache) (result : Result Checked ClientRefusal) (transit : Transit) → CacheStands old (client_of world client)
+      → found.reply ≡ Some transit → transit.ask ≡ ask → Says transit.reply result → KeepsBehind key result old new
       → Happens (Deliver client) world (λ next. CacheStands new (client_of next client))
-  receives old new checked transit stands sent mine says keeps =
+  receives old new result transit stands sent mine says keeps =
       let next = delivered client ask asking.asked.question link found transit.reply world in
       let log = (client_of world client).log in
       let changed : Client = record (client_of world client) {
@@ -179,82 +181,96 @@ module _ (world : World) (client ask link : ℕ) (found : Link) (key : CacheKey)
             (some_enabled (slice_get world.links link) found _ next asking.there
             (some_enabled found.reply transit _ next sent
             (when_enabled (transit.ask == ask) next (eq-eqb transit.ask ask mine))))));
-        behind = stands_put new client changed world.clients (keeps_so checked says keeps);
+        behind = stands_put new client changed world.clients (keeps_so result says keeps);
       } where
-    longer : (reply : Reply) (entry : CacheKey × Verdict) → IsReceived (client_of world client).log entry
-        → IsReceived (kept asking.asked.question reply (client_of world client).log) entry
-    longer (Judged verdict) entry is =
-        (is.0, get-append (client_of world client).log (record { question = asking.asked.question; verdict = verdict } ∷ []) is.0
-        (record { question = entry.0.question; verdict = entry.1 }) is.1)
-    longer other entry is = is
-    all_longer : (reply : Reply) → AllByRecursion (IsReceived (kept asking.asked.question reply (client_of world client).log)) old.entries
-    all_longer reply =
-        all_more (IsReceived (client_of world client).log) (IsReceived (kept asking.asked.question reply (client_of world client).log))
-        (longer reply) old.entries stands.received
-    same_entries : (cache : Cache) → cache ≡ old
-        → CacheStands cache (record (client_of world client) {
-          asking = None;
-          log = kept asking.asked.question transit.reply (client_of world client).log;
-        })
-    same_entries cache is =
-        subst (λ (cache : Cache). CacheStands cache (record (client_of world client) {
-          asking = None;
-          log = kept asking.asked.question transit.reply (client_of world client).log;
-        })) (sym is) (record { told = stands.told; received = all_longer transit.reply })
-    new_entry : (verdict : Verdict) → transit.reply ≡ Judged verdict
-        → IsReceived (kept asking.asked.question transit.reply (client_of world client).log) (key, verdict)
-    new_entry verdict is =
-        (length (client_of world client).log,
-        ap (λ (reply : Reply). slice_get (kept asking.asked.question reply (client_of world client).log) (length (client_of world client).log)) is
-        ∙ (get-end (client_of world client).log (record { question = asking.asked.question; verdict = verdict })
-        ∙ ap (λ (q : Question). Some (record { question = q; verdict = verdict })) asking.same))
-    judged : (verdict : Verdict) → transit.reply ≡ Judged verdict → (new ≡ kept_in key verdict old) ⊎ (new ≡ without key old)
-        → CacheStands new (record (client_of world client) {
-          asking = None;
-          log = kept asking.asked.question transit.reply (client_of world client).log;
-        })
-    judged verdict is (inl put) =
-        subst (λ (cache : Cache). CacheStands cache (record (client_of world client) {
-          asking = None;
-          log = kept asking.asked.question transit.reply (client_of world client).log;
-        })) (sym put)
-        (record {
-          told = stands.told;
-          received = (
-            new_entry verdict is,
-            all_taken (IsReceived (kept asking.asked.question transit.reply (client_of world client).log)) (same_asked key) (old.most - 1)
-                (remove_entry (same_asked key) old.entries)
-                (all_removed (IsReceived (kept asking.asked.question transit.reply (client_of world client).log)) (same_asked key) old.entries
-                (all_longer transit.reply)),
-          );
-        })
-    judged verdict is (inr gone) =
-        subst (λ (cache : Cache). CacheStands cache (record (client_of world client) {
-          asking = None;
-          log = kept asking.asked.question transit.reply (client_of world client).log;
-        })) (sym gone)
-        (record {
-          told = stands.told;
-          received = all_removed (IsReceived (kept asking.asked.question transit.reply (client_of world client).log)) (same_asked key) old.entries
-              (all_longer transit.reply);
-        })
-    by_kind : (verdict : Verdict) → transit.reply ≡ Judged verdict → (b : Bool)
-        → MatchBool b (new ≡ old) ((new ≡ kept_in key verdict old) ⊎ (new ≡ without key old))
-        → CacheStands new (record (client_of world client) {
-          asking = None;
-          log = kept asking.asked.question transit.reply (client_of world client).log;
-        })
-    by_kind verdict is true same = same_entries new same
-    by_kind verdict is false put = judged verdict is put
-    keeps_so : (checked : Checked) → Says transit.reply checked → IsKeptOf key checked old new
-        → CacheStands new (record (client_of world client) {
-          asking = None;
-          log = kept asking.asked.question transit.reply (client_of world client).log;
-        })
-    keeps_so (ByPolicies verdict) says keeps = by_kind verdict says (is_agent verdict.answer.kind.0) keeps
-    keeps_so (ByAgent commit kind number allowed) says keeps = same_entries new keeps
+        longer : (reply : Reply) (entry : CacheKey × Verdict) → IsReceived (client_of world client).log entry
+            → IsReceived (kept asking.asked.question reply (client_of world client).log) entry
+        longer (Judged verdict) entry is = (
+          is.0,
+          get-append (client_of world client).log (record { question = asking.asked.question; verdict = verdict } ∷ []) is.0
+              (record { question = entry.0.question; verdict = entry.1 }) is.1,
+        )
+        longer other entry is = is
 
--- ---- a closed connection, and a told commit
+        all_longer : (reply : Reply) → AllByRecursion (IsReceived (kept asking.asked.question reply (client_of world client).log)) old.entries
+        all_longer reply =
+            all_more (IsReceived (client_of world client).log) (IsReceived (kept asking.asked.question reply (client_of world client).log))
+            (longer reply) old.entries stands.received
+
+        same_entries : (cache : Cache) → cache ≡ old
+            → CacheStands cache (record (client_of world client) {
+              asking = None;
+              log = kept asking.asked.question transit.reply (client_of world client).log;
+            })
+        same_entries cache is =
+            subst (λ (cache : Cache). CacheStands cache (record (client_of world client) {
+              asking = None;
+              log = kept asking.asked.question transit.reply (client_of world client).log;
+            })) (sym is) (record { told = stands.told; received = all_longer transit.reply })
+
+        new_entry : (verdict : Verdict) → transit.reply ≡ Judged verdict
+            → IsReceived (kept asking.asked.question transit.reply (client_of world client).log) (key, verdict)
+        new_entry verdict is = (
+          length (client_of world client).log,
+          ap (λ (reply : Reply). slice_get (kept asking.asked.question reply (client_of world client).log) (length (client_of world client).log)) is
+              ∙ (get-end (client_of world client).log (record { question = asking.asked.question; verdict = verdict })
+              ∙ ap (λ (q : Question). Some (record { question = q; verdict = verdict })) asking.same),
+        )
+
+        judged : (verdict : Verdict) → transit.reply ≡ Judged verdict → (new ≡ kept_in key verdict old) ⊎ (new ≡ without key old)
+            → CacheStands new (record (client_of world client) {
+              asking = None;
+              log = kept asking.asked.question transit.reply (client_of world client).log;
+            })
+        judged verdict is (inl put) =
+            subst (λ (cache : Cache). CacheStands cache (record (client_of world client) {
+              asking = None;
+              log = kept asking.asked.question transit.reply (client_of world client).log;
+            })) (sym put)
+            (record {
+              told = stands.told;
+              received = (
+                new_entry verdict is,
+                all_taken (IsReceived (kept asking.asked.question transit.reply (client_of world client).log)) (same_asked key) (old.most - 1)
+                    (remove_entry (same_asked key) old.entries)
+                    (all_removed (IsReceived (kept asking.asked.question transit.reply (client_of world client).log)) (same_asked key) old.entries
+                    (all_longer transit.reply)),
+              );
+            })
+        judged verdict is (inr gone) =
+            subst (λ (cache : Cache). CacheStands cache (record (client_of world client) {
+              asking = None;
+              log = kept asking.asked.question transit.reply (client_of world client).log;
+            })) (sym gone)
+            (record {
+              told = stands.told;
+              received = all_removed (IsReceived (kept asking.asked.question transit.reply (client_of world client).log)) (same_asked key) old.entries
+                  (all_longer transit.reply);
+            })
+
+        by_kind : (verdict : Verdict) → transit.reply ≡ Judged verdict → (b : Bool)
+            → MatchBool b (new ≡ old) ((new ≡ kept_in key verdict old) ⊎ (new ≡ without key old))
+            → CacheStands new (record (client_of world client) {
+              asking = None;
+              log = kept asking.asked.question transit.reply (client_of world client).log;
+            })
+        by_kind verdict is true same = same_entries new same
+        by_kind verdict is false put = judged verdict is put
+
+        keeps_so : (result : Result Checked ClientRefusal) → Says transit.reply result → KeepsBehind key result old new
+            → CacheStands new (record (client_of world client) {
+              asking = None;
+              log = kept asking.asked.question transit.reply (client_of world client).log;
+            })
+        keeps_so (Ok (ByPolicies verdict)) says keeps = by_kind verdict says (is_agent verdict.answer.kind.0) keeps
+        keeps_so (Ok (ByAgent commit kind number allowed)) says keeps = same_entries new keeps
+        keeps_so (Err refused) says keeps = same_entries new keeps
+
+-- ---- a new client, a closed connection, and a told commit
+
+pub stands_new : (world : World) (client most : ℕ) → client_of world client ≡ unnamed
+    → CacheStands (empty_cache most) (client_of world client)
+stands_new world client most is = subst (CacheStands (empty_cache most)) (sym is) (record { told = refl; received = tt })
 
 pub notices : (old new : Cache) (world : World) (client link : ℕ) (found : Link) → CacheStands old (client_of world client)
     → (client_of world client).link ≡ Some link → slice_get world.links link ≡ Some found → found.up ≡ false → new ≡ emptied old

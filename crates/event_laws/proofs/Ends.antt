@@ -50,16 +50,17 @@ module _ {H : Type 0} (used : H → Bool) where
       → EndsStand used link_of run places (set links at changed)
   ends_relinked link_of run places links at found changed there same_run same_entered down ends place entry is =
       let own = ends place entry is in by_case own.0 own.1 own.2 (link_of place == at) refl where
-    by_case : (link : Link) → slice_get links (link_of place) ≡ Some link → IsEndOf used run entry link → (b : Bool) → (link_of place == at) ≡ b
-        → (link : Link) × (slice_get (set links at changed) (link_of place) ≡ Some link) × IsEndOf used run entry link
-    by_case link got end true same =
-        let here : link_of place ≡ at = eqb-true (link_of place) at same in
-        let one : found ≡ link = same_Some found link (sym there ∙ (ap (slice_get links) (sym here) ∙ got)) in
-        (changed,
-        ap (slice_get (set links at changed)) here ∙ get-set_same links at found changed there,
-        still_end run entry found changed same_run same_entered down (subst (IsEndOf used run entry) (sym one) end))
-    by_case link got end false same =
-        (link, get-set_other links at (link_of place) changed (eqb-false (link_of place) at same) ∙ got, end)
+        by_case : (link : Link) → slice_get links (link_of place) ≡ Some link → IsEndOf used run entry link → (b : Bool) → (link_of place == at) ≡ b
+            → (link : Link) × (slice_get (set links at changed) (link_of place) ≡ Some link) × IsEndOf used run entry link
+        by_case link got end true same =
+            let here : link_of place ≡ at = eqb-true (link_of place) at same in
+            let one : found ≡ link = same_Some found link (sym there ∙ (ap (slice_get links) (sym here) ∙ got)) in (
+              changed,
+              ap (slice_get (set links at changed)) here ∙ get-set_same links at found changed there,
+              still_end run entry found changed same_run same_entered down (subst (IsEndOf used run entry) (sym one) end),
+            )
+        by_case link got end false same =
+            (link, get-set_other links at (link_of place) changed (eqb-false (link_of place) at same) ∙ got, end)
 
   -- a connection enters
   pub ends_entered : (link_of : ℕ → ℕ) (run : ℕ) (places : List (Option (Entry H))) (links : List Link) (seat at : ℕ)
@@ -69,27 +70,29 @@ module _ {H : Type 0} (used : H → Bool) where
       → EndsStand used (entered_in seat at link_of) run (set places seat (Some new)) (set links at changed)
   ends_entered link_of run places links seat at found changed new there free own ends place entry is =
       by_case (place == seat) refl where
-    other : (l : (link : Link) × (slice_get links (link_of place) ≡ Some link) × IsEndOf used run entry link)
-        → (link : Link) × (slice_get (set links at changed) (link_of place) ≡ Some link) × IsEndOf used run entry link
-    other (link, got, end) =
-        let apart : link_of place ≡ at → ⊥ = λ same.
-        let one : found ≡ link = same_Some found link (sym there ∙ (ap (slice_get links) (sym same) ∙ got)) in
-        none-some entry.entered (sym free ∙ (ap (λ (l : Link). l.entered) one ∙ end.entered)) in
-        (link, get-set_other links at (link_of place) changed apart ∙ got, end)
-    by_case : (b : Bool) → (place == seat) ≡ b
-        → (link : Link) × (slice_get (set links at changed) (cond (place == seat) at (link_of place)) ≡ Some link) × IsEndOf used run entry link
-    by_case true same =
-        let here : place ≡ seat = eqb-true place seat same in
-        let entry_is : new ≡ entry =
-        same_Some new entry (set_there places seat (Some new) (Some entry)
-        (ap (slice_get (set places seat (Some new))) (sym here) ∙ is)) in
-        (changed,
-        ap (λ b. slice_get (set links at changed) (cond b at (link_of place))) same ∙ get-set_same links at found changed there,
-        subst (λ (e : Entry H). IsEndOf used run e changed) entry_is own)
-    by_case false same =
-        let was = set_elsewhere places seat place (Some new) (Some entry) (eqb-false place seat same) is in
-        let rest = other (ends place entry was) in
-        (rest.0, ap (λ b. slice_get (set links at changed) (cond b at (link_of place))) same ∙ rest.1, rest.2)
+        other : (l : (link : Link) × (slice_get links (link_of place) ≡ Some link) × IsEndOf used run entry link)
+            → (link : Link) × (slice_get (set links at changed) (link_of place) ≡ Some link) × IsEndOf used run entry link
+        other (link, got, end) =
+            let apart : link_of place ≡ at → ⊥ = λ same.
+            let one : found ≡ link = same_Some found link (sym there ∙ (ap (slice_get links) (sym same) ∙ got)) in
+            none-some entry.entered (sym free ∙ (ap (λ (l : Link). l.entered) one ∙ end.entered)) in
+            (link, get-set_other links at (link_of place) changed apart ∙ got, end)
+
+        by_case : (b : Bool) → (place == seat) ≡ b
+            → (link : Link) × (slice_get (set links at changed) (cond (place == seat) at (link_of place)) ≡ Some link) × IsEndOf used run entry link
+        by_case true same =
+            let here : place ≡ seat = eqb-true place seat same in
+            let entry_is : new ≡ entry =
+            same_Some new entry (set_there places seat (Some new) (Some entry)
+            (ap (slice_get (set places seat (Some new))) (sym here) ∙ is)) in (
+              changed,
+              ap (λ b. slice_get (set links at changed) (cond b at (link_of place))) same ∙ get-set_same links at found changed there,
+              subst (λ (e : Entry H). IsEndOf used run e changed) entry_is own,
+            )
+        by_case false same =
+            let was = set_elsewhere places seat place (Some new) (Some entry) (eqb-false place seat same) is in
+            let rest = other (ends place entry was) in
+            (rest.0, ap (λ b. slice_get (set links at changed) (cond b at (link_of place))) same ∙ rest.1, rest.2)
 
   -- ---- all places
 
@@ -127,14 +130,15 @@ module _ {H : Type 0} (used : H → Bool) where
       → EndsStand used link_of run now (map (hung_up published) links)
   ends_hung link_of run low published places now links same hung ends place entry is =
       let was = hung_get low places now place entry hung is in of_old was.0 was.1 was.2 where
-    of_old : (old : Option (Entry H)) → slice_get places place ≡ Some old → IsHungUpIf used (is_below low old) old (Some entry)
-        → (link : Link) × (slice_get (map (hung_up published) links) (link_of place) ≡ Some link) × IsEndOf used run entry link
-    of_old None got hung_so = absurd (none-some entry (sym hung_so))
-    of_old (Some old) got hung_so =
-        let own = ends place old got in
-        (hung_up published own.0,
-        get-map (hung_up published) links (link_of place) own.0 own.1,
-        hung_end low published run (nat_lt old.entered low) old entry own.0 same refl hung_so own.2)
+        of_old : (old : Option (Entry H)) → slice_get places place ≡ Some old → IsHungUpIf used (is_below low old) old (Some entry)
+            → (link : Link) × (slice_get (map (hung_up published) links) (link_of place) ≡ Some link) × IsEndOf used run entry link
+        of_old None got hung_so = absurd (none-some entry (sym hung_so))
+        of_old (Some old) got hung_so =
+            let own = ends place old got in (
+              hung_up published own.0,
+              get-map (hung_up published) links (link_of place) own.0 own.1,
+              hung_end low published run (nat_lt old.entered low) old entry own.0 same refl hung_so own.2,
+            )
 
   -- ---- a connection that leaves
 
@@ -148,14 +152,16 @@ module _ {H : Type 0} (used : H → Bool) where
     here None got same so = absurd (none-some entry (sym so))
     here (Some old) got same so =
         let own = ends seat old got in
-        let one : own.0 ≡ found = same_Some own.0 found (sym own.1 ∙ there) in
-        (own.0,
-        ap (λ p. slice_get links (link_of p)) same ∙ own.1,
-        record {
-          run = own.2.run;
-          entered = own.2.entered ∙ ap (λ (at : ℕ). Some at) (sym so.0);
-          hung = λ was_used. ap (λ (l : Link). l.up) one ∙ down;
-        })
+        let one : own.0 ≡ found = same_Some own.0 found (sym own.1 ∙ there) in (
+          own.0,
+          ap (λ p. slice_get links (link_of p)) same ∙ own.1,
+          record {
+            run = own.2.run;
+            entered = own.2.entered ∙ ap (λ (at : ℕ). Some at) (sym so.0);
+            hung = λ was_used. ap (λ (l : Link). l.up) one ∙ down;
+          },
+        )
+
     by_case : (b : Bool) → (place == seat) ≡ b
         → (link : Link) × (slice_get links (link_of place) ≡ Some link) × IsEndOf used run entry link
     by_case true same =

@@ -1,12 +1,12 @@
 -- The committed states: what was published stands among them, under its commit.
 use Rattle.std.proofs.Common.{◌≡◌, ◌∙◌, ◌<◌, ◌≤◌, ◌+◌, ◌==◌, ℕ, Bool, true, false, nat_lt, cond, List, [], ◌∷◌, ◌++◌, Option, Some, None, refl, sym, ap, subst, append_assoc, arith}
-use Rattle.std.specs.Prelude.{nat_le}
 use Rattle.std.specs.List.{AllByRecursion, find}
-use Rattle.std.proofs.lemmas.Bool.{eq-eqb, ne_eqb, le-leb, leb-true, le-ltb, lt-ltb, and_parts, and_from}
+use Rattle.std.proofs.lemmas.Bool.{eq-eqb, ne_eqb}
 use Rattle.desk_state.specs.DeskState.{DeskState}
-use Rattle.live_desk.specs.History.{GoesOn, Rises, RisesFrom, last_commit}
+use Rattle.live_desk.specs.History.{Rises, RisesFrom, last_commit}
+use Rattle.live_desk.proofs.Looks.{last_behind}
 use Rattle.client_door.specs.Answered.{StandsIn}
-use Rattle.client_door.proofs.Published.{stands_in_more}
+use Rattle.client_door.proofs.Published.{reads_between, read_from}
 use Rattle.desk_world.specs.World.{desk_at, latest_of}
 use Rattle.desk_world.specs.Kept.{IsChain}
 use Rattle.desk_world.specs.Links.{may_read}
@@ -71,21 +71,20 @@ last_grows : (seen more : List DeskState) → Rises (seen ++ more) → last_comm
 last_grows [] more rises = omega arith
 last_grows (desk ∷ seen) more rises = last_grows_from desk.commit seen more rises
 
-pub last_of_more : (seen published : List DeskState) → Rises published → GoesOn seen published
-    → last_commit 0 seen ≤ last_commit 0 published
-last_of_more seen published rises (more, is) =
-    subst (λ (list : List DeskState). last_commit 0 seen ≤ last_commit 0 list) (sym is)
-    (last_grows seen more (subst (λ (list : List DeskState). Rises list) is rises))
+-- the last of the published states is no older than any of them
+pub below_last : (published : List DeskState) (desk : DeskState) → Rises published → StandsIn desk published
+    → desk.commit ≤ last_commit 0 published
+below_last published desk rises (front, back, is) =
+    let split : published ≡ (front ++ desk ∷ []) ++ back = is ∙ sym (append_assoc front (desk ∷ []) back) in
+    let top : last_commit 0 (front ++ desk ∷ []) ≡ desk.commit = last_behind front (front ++ desk ∷ []) desk refl in
+    let grown = last_grows (front ++ desk ∷ []) back (subst (λ (list : List DeskState). Rises list) split rises) in
+    let whole = ap (last_commit 0) split in omega (arith, top, grown, whole)
 
--- what may be read where the seat has seen less, may be read where it is published
-pub may_read_here : (seen low last published commit : ℕ) → seen ≤ low → last ≤ published → may_read low last commit ≡ true
+-- what may be read where the seat has seen more, may be read where it is published
+pub may_read_here : (seen low last published commit : ℕ) → seen ≤ low → commit ≤ published → may_read low last commit ≡ true
     → may_read seen published commit ≡ true
-may_read_here seen low last published commit le more may =
-    let both = and_parts (nat_le low commit) (nat_le commit last) may in
-    let over = leb-true low commit both.0 in
-    let under = leb-true commit last both.1 in
-    and_from (nat_le seen commit) (nat_le commit published) (le-leb seen commit (omega (arith, le, over)))
-    (le-leb commit published (omega (arith, under, more)))
+may_read_here seen low last published commit le high may =
+    let over = read_from low last commit may in reads_between seen published commit (omega (arith, le, over)) high
 
 -- ---- the last of the committed states
 

@@ -85,7 +85,8 @@ module _ {H : Type 0} (used : H → Bool) where
   pub leaves : (link_of : ℕ → ℕ) (roll roll_now : RollState H) (side : AdminSide) (world : World) (seat : ℕ) (found : Link)
       → StandsFor used link_of roll side world → slice_get world.links (link_of seat) ≡ Some found
       → LeavesPlace used seat roll roll_now
-      → HoldsOrHappens (Lose (link_of seat)) world (StandsFor used link_of roll_now side)
+      → HoldsOrHappens (Lose (link_of seat)) world (λ next.
+      (slice_get next.links (link_of seat) ≡ Some (record found { up = false })) × StandsFor used link_of roll_now side next)
   leaves link_of roll roll_now side world seat found stands there left = by_case found.up refl where
     with_place : (next : World) → StandsFor used link_of roll side next → (one : Link) → slice_get next.links (link_of seat) ≡ Some one
         → one.up ≡ false → StandsFor used link_of roll_now side next
@@ -101,24 +102,33 @@ module _ {H : Type 0} (used : H → Bool) where
           last = still.last;
           decided = still.decided;
         })
-    by_case : (up : Bool) → found.up ≡ up → HoldsOrHappens (Lose (link_of seat)) world (StandsFor used link_of roll_now side)
+
+    shut : Link
+    shut = record found { up = false }
+
+    IsShut : World → Type 0
+    IsShut next = (slice_get next.links (link_of seat) ≡ Some shut) × StandsFor used link_of roll_now side next
+
+    by_case : (up : Bool) → found.up ≡ up → HoldsOrHappens (Lose (link_of seat)) world IsShut
     by_case true up =
-        let shut : Link = record found { up = false } in
-        inr (happens (Lose (link_of seat)) world (with_link (link_of seat) shut world) (StandsFor used link_of roll_now side)
-        stands.kept
+        inr (happens (Lose (link_of seat)) world (with_link (link_of seat) shut world) IsShut stands.kept
         (some_enabled (slice_get world.links (link_of seat)) found _ (with_link (link_of seat) shut world) there
         (when_enabled found.up (with_link (link_of seat) shut world) up))
-        (λ kept. with_place (with_link (link_of seat) shut world)
-        (record {
-          kept = kept;
-          note = stands.note;
-          ends = ends_relinked used link_of world.run roll.places world.links (link_of seat) found shut there refl refl (λ down. refl)
-              stands.ends;
-          published = stands.published;
-          committed = record { earlier = stands.committed.earlier; all = stands.committed.all };
-          rising = stands.rising;
-          last = stands.last;
-          decided = stands.decided;
-        })
-        shut (get-set_same world.links (link_of seat) found shut there) refl))
-    by_case false down = inl (with_place world stands found there down)
+        (λ kept. (
+          get-set_same world.links (link_of seat) found shut there,
+          with_place (with_link (link_of seat) shut world)
+              (record {
+                kept = kept;
+                note = stands.note;
+                ends = ends_relinked used link_of world.run roll.places world.links (link_of seat) found shut there refl refl (λ down. refl)
+                    stands.ends;
+                published = stands.published;
+                committed = record { earlier = stands.committed.earlier; all = stands.committed.all };
+                rising = stands.rising;
+                last = stands.last;
+                decided = stands.decided;
+              })
+              shut (get-set_same world.links (link_of seat) found shut there) refl,
+        )))
+    by_case false down =
+        inl (there ∙ ap (λ (up : Bool). Some (record found { up = up })) down, with_place world stands found there down)

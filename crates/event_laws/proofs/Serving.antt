@@ -1,24 +1,26 @@
 -- What a worker of clients reads and sends is an event.
-use Rattle.std.proofs.Common.{◌≡◌, ◌∙◌, ◌<◌, ◌≤◌, ◌&&◌, ℕ, Bool, true, false, List, [], ◌∷◌, set, Option, Some, None, Ok, refl, sym, ap, subst, arith}
+use Rattle.std.proofs.Common.{◌≡◌, ◌∙◌, ◌<◌, ◌≤◌, ◌&&◌, ℕ, Bool, true, false, List, [], ◌∷◌, set, Option, Some, None, Ok, Err, refl, sym, ap, subst, arith}
 use Rattle.std.specs.Prelude.{slice_get, is_some}
 use Rattle.std.proofs.lemmas.Bool.{and_from}
 use Rattle.std.proofs.lemmas.Option.{none-some, same_Some}
 use Rattle.cynara_keys.specs.Key.{Question}
 use Rattle.cynara_keys.specs.declared.results.Kind.{Kind}
-use Rattle.agent_table.specs.declared.table.Taken.{Taken}
+use Rattle.agent_table.specs.declared.refusals.PutRefusal.{PutRefusal}
+use Rattle.agent_table.specs.declared.refusals.PutRefusal.TheVariants.{NoAgent as NoneThere, Full, Spent, Stopped, Memory}
 use Rattle.desk_state.specs.DeskState.{DeskState}
 use Rattle.live_roll.specs.Roll.{RollState}
-use Rattle.live_desk.specs.History.{GoesOn, last_commit}
+use Rattle.live_desk.specs.History.{last_commit}
 use Rattle.admin_door.specs.Side.{AdminSide}
-use Rattle.client_door.specs.Answered.{Answered, Answers, IsRight, AreReadIn}
-use Rattle.client_door.specs.Asking.{ask_made, LeadsTo}
+use Rattle.client_door.specs.Answered.{Answered, Answers, IsRight, AreReadIn, StandsIn}
+use Rattle.client_door.specs.Asking.{ask_made, LeadsTo, LeadsToReply}
 use Rattle.client_door.specs.Reading.{reading}
-use Rattle.client_door.proofs.Published.{stands_in_more}
 use Rattle.server_hall.specs.Call.{AskMade, AskResult}
+use Rattle.server_hall.specs.declared.refusals.AskRefusal.TheVariants.{Put, Gone, Stopped as AskStopped, Lost, Withdrawn}
 use Rattle.desk_world.specs.World.{World, history, root_outcome, desk_at, with_link, entry_at}
 use Rattle.desk_world.specs.Links.{is_nothing, may_read, read_at, reading_of, outgoing, settled, settled_by, write_on}
 use Rattle.desk_world.specs.declared.agent_entries.AgentEntry.{AgentEntry}
-use Rattle.desk_world.specs.declared.agent_entries.EntryState.TheVariants.{Answered as IsAnswered}
+use Rattle.desk_world.specs.declared.agent_entries.EntryState.{EntryState}
+use Rattle.desk_world.specs.declared.agent_entries.EntryState.TheVariants.{Gone as HasGone, Answered as IsAnswered}
 use Rattle.desk_world.specs.declared.events.Event.TheVariants.{Read, Write}
 use Rattle.desk_world.specs.declared.links.Asked.{Asked}
 use Rattle.desk_world.specs.declared.links.Link.{Link}
@@ -27,10 +29,10 @@ use Rattle.desk_world.specs.declared.links.Reading.TheVariants.{Nothing, Ready, 
 use Rattle.desk_world.specs.declared.replies.Reply.{Reply}
 use Rattle.event_laws.specs.Happens.{Happens}
 use Rattle.event_laws.specs.Service.{StandsFor, unpublished}
-use Rattle.event_laws.specs.Worker.{HasCheck, once_read, once_sent}
+use Rattle.event_laws.specs.Worker.{HasCheck, Awaits, IsNotPut, HasOutcome, once_read, once_sent}
 use Rattle.event_laws.proofs.Enabled.{some_enabled, when_enabled, happens}
 use Rattle.event_laws.proofs.Ends.{ends_relinked}
-use Rattle.event_laws.proofs.History.{stands_at, last_of_more, may_read_here}
+use Rattle.event_laws.proofs.History.{stands_at, below_last, may_read_here}
 use Rattle.desk_world.specs.Kept.{IsKept}
 
 module _ {H : Type 0} (used : H → Bool) (link_of : ℕ → ℕ) (roll : RollState H) (side : AdminSide) (world : World)
@@ -53,20 +55,20 @@ module _ {H : Type 0} (used : H → Bool) (link_of : ℕ → ℕ) (roll : RollSt
   -- ---- reading
 
   pub reads : (ask low : ℕ) (seen : List DeskState) (one : Answered) (more : List Answered) → HasCheck world link found ask one.check
-      → found.reading ≡ Nothing → found.seen ≤ low → GoesOn seen side.published → AreReadIn seen low (one ∷ more)
+      → found.reading ≡ Nothing → found.seen ≤ low → StandsIn one.desk side.published → AreReadIn seen low (one ∷ more)
       → Happens (Read link one.desk.commit) world (λ next.
       (next ≡ with_link link (once_read one.check one.desk found) world)
       × StandsFor used link_of roll side next × AreReadIn seen one.desk.commit more)
   unfolding root_outcome
-  reads ask low seen one more has nothing le goes_on (in_seen, may, others) =
+  reads ask low seen one more has nothing le is_published (in_seen, may, others) =
       let changed = once_read one.check one.desk found in
       let next = with_link link changed world in
       let here = stands_at world.first world.later stands.committed.earlier side.published
       (unpublished side.desk side.published) one.desk stands.kept.chain
-      stands.committed.all (stands_in_more one.desk seen side.published in_seen goes_on) in
-      let grown = last_of_more seen side.published stands.rising goes_on in
+      stands.committed.all is_published in
+      let top = below_last side.published one.desk stands.rising is_published in
       let fresh = may_read_here found.seen low (last_commit 0 seen) world.published one.desk.commit le
-      (omega (arith, grown, stands.published)) may in
+      (omega (arith, top, stands.published)) may in
       let tests = and_from (is_some found.entered) (is_nothing found.reading && may_read found.seen world.published one.desk.commit)
       (ap is_some has.entered) (and_from (is_nothing found.reading) (may_read found.seen world.published one.desk.commit)
       (ap is_nothing nothing) fresh) in
@@ -125,20 +127,47 @@ module _ {H : Type 0} (used : H → Bool) (link_of : ℕ → ℕ) (roll : RollSt
       (ap (outgoing found.run world.entries) was_read
       ∙ replied found.run world.entries (reading one.desk one.check) one.check.question one.call one.reply none right)
 
-  pub writes_answer : (ask commit number : ℕ) (kind : Kind) (metadata : List ℕ) (one : Answered) (entry : AgentEntry) (taken : Taken)
+  -- ---- what comes of an agent
+
+  -- an entry of the log that is answered or gone
+  of_entry : (commit : ℕ) (kind : Kind) (number : ℕ) (state : EntryState) (reply : Reply)
+      → Awaits world found commit kind number state → settled commit kind number state ≡ Some reply
+      → outgoing found.run world.entries found.reading ≡ Some reply
+  of_entry commit kind number state reply awaits is =
+      ap (outgoing found.run world.entries) awaits.waits
+      ∙ (ap (settled_by commit kind number) awaits.logged ∙ (ap (settled commit kind number) awaits.stands ∙ is))
+
+  -- a question that was not put
+  of_none : (commit : ℕ) (kind : Kind) (refusal : PutRefusal) (reply : Reply) → IsNotPut found commit kind refusal
+      → LeadsToReply commit kind refusal reply → outgoing found.run world.entries found.reading ≡ Some reply
+  of_none commit kind (NoneThere other) reply read leads = ap (outgoing found.run world.entries) (read ∙ sym leads)
+  of_none commit kind Full reply read leads = ap (outgoing found.run world.entries) (read ∙ sym leads)
+  of_none commit kind Spent reply read leads = ap (outgoing found.run world.entries) (read ∙ sym leads)
+  of_none commit kind Stopped reply read leads = absurd read
+  of_none commit kind (Memory error) reply read leads = absurd read
+
+  of_outcome : (commit : ℕ) (kind : Kind) (question : Question) (result : AskResult) (reply : Reply)
+      → HasOutcome world found commit kind result → LeadsTo commit kind question result reply
+      → outgoing found.run world.entries found.reading ≡ Some reply
+  of_outcome commit kind question (Ok answered) reply has leads =
+      of_entry commit kind answered.0 (IsAnswered answered.1.allowed) reply has leads.1
+  of_outcome commit kind question (Err (Gone number)) reply has leads = of_entry commit kind number HasGone reply has leads
+  of_outcome commit kind question (Err (Put refusal)) reply has leads = of_none commit kind refusal reply has leads
+  of_outcome commit kind question (Err AskStopped) reply has leads = absurd has
+  of_outcome commit kind question (Err (Lost number)) reply has leads = absurd has
+  of_outcome commit kind question (Err (Withdrawn number)) reply has leads = absurd has
+
+  pub writes_outcome : (ask commit : ℕ) (kind : Kind) (metadata : List ℕ) (one : Answered) (result : AskResult)
       → HasCheck world link found ask one.check → reading one.desk one.check ≡ Due commit kind metadata
-      → found.reading ≡ Waiting commit kind number → found.up ≡ true → entry_at found.run number world.entries ≡ Some entry
-      → entry.state ≡ IsAnswered taken.allowed → IsRight one
-      → one.call ≡ Some (ask_made kind one.check.question metadata (Ok (number, taken)))
+      → HasOutcome world found commit kind result → found.up ≡ true → IsRight one
+      → one.call ≡ Some (ask_made kind one.check.question metadata result)
       → Happens (Write link) world (λ next.
       (next ≡ with_link link (once_sent ask one.reply found) world) × StandsFor used link_of roll side next)
-  writes_answer ask commit number kind metadata one entry taken has due waits up logged answered right called =
+  writes_outcome ask commit kind metadata one result has due outcome up right called =
       let answers = subst (λ (read : Reading). Answers read one.check.question one.call one.reply) due right in
-      let same_call : ask_made kind one.check.question metadata answers.0 ≡ ask_made kind one.check.question metadata (Ok (number, taken)) =
-      same_Some (ask_made kind one.check.question metadata answers.0) (ask_made kind one.check.question metadata (Ok (number, taken)))
+      let same_call : ask_made kind one.check.question metadata answers.0 ≡ ask_made kind one.check.question metadata result =
+      same_Some (ask_made kind one.check.question metadata answers.0) (ask_made kind one.check.question metadata result)
       (sym answers.1 ∙ called) in
       let leads = subst (λ (result : AskResult). LeadsTo commit kind one.check.question result one.reply)
       (ap (λ (call : AskMade). call.result) same_call) answers.2 in
-      sends ask one has up
-      (ap (outgoing found.run world.entries) waits
-      ∙ (ap (settled_by commit kind number) logged ∙ (ap (settled commit kind number) answered ∙ leads.1)))
+      sends ask one has up (of_outcome commit kind one.check.question result one.reply outcome leads)

@@ -6,12 +6,13 @@ use Rattle.desk_state.specs.declared.commands.Command.{Command}
 use Rattle.live_roll.specs.Roll.{RollState, IsNew}
 use Rattle.live_desk.specs.History.{Rises, last_commit}
 use Rattle.admin_door.specs.Side.{AdminSide}
-use Rattle.desk_world.specs.World.{World, history, latest, last, with_commit}
+use Rattle.desk_world.specs.World.{World, fresh, history, latest, last, with_commit}
 use Rattle.desk_world.specs.Commits.{may_store, committed, under_way, may_stop, restarted}
 use Rattle.desk_world.specs.Events.{after}
 use Rattle.desk_world.specs.Kept.{IsKept}
 use Rattle.desk_world.specs.declared.events.Event.TheVariants.{Stop}
 use Rattle.desk_world.proofs.Committing.{latest-push}
+use Rattle.desk_world.proofs.Runs.{fresh_is}
 use Rattle.event_laws.specs.Happens.{Happens}
 use Rattle.event_laws.specs.Service.{StandsFor, IsHistory, unpublished}
 use Rattle.event_laws.specs.Store.{IsLeftBehind, IsStarted}
@@ -35,9 +36,24 @@ module _ {H : Type 0} (used : H → Bool) (link_of : ℕ → ℕ) (workers : ℕ
             ∙ (ap (λ (list : List DeskState). split.0 ++ list) (sym (started_all started.published
             (all_published side.desk side.published (omega (arith, published, kept)))))));
       } where
-    started_all : side.published ≡ desk ∷ [] → unpublished side.desk side.published ≡ []
-        → side.published ++ unpublished side.desk side.published ≡ desk ∷ []
-    started_all is none = ap (λ (list : List DeskState). side.published ++ list) none ∙ ap (λ (list : List DeskState). list ++ []) is
+        started_all : side.published ≡ desk ∷ [] → unpublished side.desk side.published ≡ []
+            → side.published ++ unpublished side.desk side.published ≡ desk ∷ []
+        started_all is none = ap (λ (list : List DeskState). side.published ++ list) none ∙ ap (λ (list : List DeskState). list ++ []) is
+
+  -- the world that is started with this state
+  pub starts_fresh : StandsFor used link_of roll side (fresh desk)
+  starts_fresh =
+      let all = with_this (fresh desk) refl in
+      record {
+        kept = fresh_is desk;
+        note = sym started.registry.note;
+        ends = ends_none used link_of 0 roll.places [] started.registry.vacant;
+        published = sym (ap (last_commit 0) started.published);
+        rising = subst (λ (list : List DeskState). Rises list) (sym started.published) tt;
+        committed = record { earlier = all.earlier; all = all.all };
+        last = sym started.kept;
+        decided = sym started.decided;
+      }
 
   -- the world that is started again from this state
   starts : (before world : World) (command : Option Command) (kept_it : Bool) → IsKept before

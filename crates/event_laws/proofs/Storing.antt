@@ -129,11 +129,15 @@ module _ {H : Type 0} (used : H → Bool) (link_of : ℕ → ℕ) (roll : RollSt
   decides old now world told stands undecided found found_as = by_case world.candidate refl found_as where
     now_is : now ≡ with_kept now.desk old
     now_is = found.rest ∙ ap (λ (b : Bool). record old { desk = now.desk; decided = b }) found.decided
+
     back : (desk : DeskState) → now.desk ≡ desk → (kept : Bool) → Happens (Decide kept) world (StandsFor used link_of roll (with_kept desk old))
         → (kept : Bool) × Happens (Decide kept) world (StandsFor used link_of roll now)
-    back desk same kept happened =
-        (kept, subst (λ (now : AdminSide). Happens (Decide kept) world (StandsFor used link_of roll now))
-        (ap (λ (d : DeskState). with_kept d old) (sym same) ∙ sym now_is) happened)
+    back desk same kept happened = (
+      kept,
+      subst (λ (now : AdminSide). Happens (Decide kept) world (StandsFor used link_of roll now))
+          (ap (λ (d : DeskState). with_kept d old) (sym same) ∙ sym now_is) happened,
+    )
+
     by_case : (candidate : Option DeskState) → world.candidate ≡ candidate → IsFoundAs old world now.desk
         → (kept : Bool) × Happens (Decide kept) world (StandsFor used link_of roll now)
     by_case None none found_as =

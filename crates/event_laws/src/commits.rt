@@ -11,9 +11,9 @@ ghost use Rattle.live_roll.specs.declared.events.Event as roll_event;
 ghost use Rattle.live_desk.specs.History.{last_commit};
 ghost use Rattle.admin_door.specs.Side.{AdminSide, with_shown};
 ghost use Rattle.admin_door.specs.Answering.{IsDone, IsUnpublished, HasFailed};
-ghost use Rattle.admin_door.specs.Settling.{IsFound};
+ghost use Rattle.admin_door.specs.Settling.{IsFound, Settles};
 ghost use Rattle.admin_door.specs.Due.{AreDue};
-ghost use Rattle.desk_world.specs.World.{World, last};
+ghost use Rattle.desk_world.specs.World.{World, last, fresh};
 ghost use Rattle.desk_world.specs.declared.events.Event as event;
 ghost use Rattle.event_laws.specs.Happens.{Happens, HoldsOrHappens};
 ghost use Rattle.event_laws.specs.Service.{StandsFor};
@@ -74,14 +74,19 @@ pub fn what_is_answered_as_done_is_acknowledged<H: HangEnd>()
         (λ next. (next.acknowledged ≡ commit) × StandsFor H.used link_of roll now next) }
 {}
 
-/// Where an earlier command is settled, so that the next one may be committed, its commit is acknowledged, or `Acknowledge` is
-/// enabled: what is kept is published, and all older connections are disconnected.
+/// Where an earlier command is settled (`Settles`), and all connections are disconnected that entered below what was published last,
+/// the last commit is acknowledged, or the event `Acknowledge` is enabled and acknowledges it: so the next command may be committed.
 pub fn what_is_settled_is_acknowledged<H: HangEnd>()
-    ensures { (link_of : ℕ → ℕ) (roll : RollState H) (now : AdminSide) (world : World)
-        → StandsFor H.used link_of roll now world → last_commit 0 now.published ≡ now.desk.commit
-        → roll.note ≡ last_commit 0 now.published
-        → HoldsOrHappens event.Event.Acknowledge world
-        (λ next. (next.acknowledged ≡ last next) × StandsFor H.used link_of roll now next) }
+    ensures { (link_of : ℕ → ℕ) (roll : RollState H) (old now : AdminSide) (world : World) (told : Option DiskState)
+        → StandsFor H.used link_of roll now world → Settles told old now → roll.note ≡ last_commit 0 now.published
+        → HoldsOrHappens event.Event.Acknowledge world (λ next.
+        (now.decided ≡ true) × (next.acknowledged ≡ last next) × StandsFor H.used link_of roll now next) }
+{}
+
+/// A service that is started for the first time stands for a fresh world, where that is of its state.
+pub fn a_started_service_is_a_fresh_world<H: HangEnd>()
+    ensures { (link_of : ℕ → ℕ) (roll : RollState H) (side : AdminSide) (desk : DeskState) (workers : ℕ)
+        → IsStarted desk workers roll side → StandsFor H.used link_of roll side (fresh desk) }
 {}
 
 /// A crash, and a service that is then started with what is found in the folder, is the event `Stop`: what is found is the last

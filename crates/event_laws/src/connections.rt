@@ -14,7 +14,8 @@ ghost use Rattle.event_laws.specs.Service.{StandsFor, entered_in};
 use link_ports::HangEnd;
 
 /// `enter_roll` that takes a connection in is the event that it enters (`Connect`), where it is one of this run that has not entered:
-/// its `note` and `entered`, and `told` of the seat. What the connection has seen by then is not above the seat's note.
+/// its `note` and `entered`, and `told` of the seat; its end is not used yet. What the connection has seen by then is not above the
+/// seat's note.
 pub fn an_entry_is_an_event<H: HangEnd>()
     ensures { (link_of : ℕ → ℕ) (roll : RollState H) (side : AdminSide) (world : World) (link : ℕ)
         (found : connection.Link) (end : H) (note : ℕ) (seat seat_now : SeatState)
@@ -35,10 +36,11 @@ pub fn a_disconnect_is_an_event<H: HangEnd>()
         → Happens event.Event.Hang world (StandsFor H.used link_of roll_now side) }
 {}
 
-/// `leave_roll` of a connection is the event that it is lost (`Lose`), where that is up still: its `left`.
+/// `leave_roll` of a connection is the event that it is lost (`Lose`), where that is up still: its `left`. It is closed then.
 pub fn who_leaves_is_disconnected<H: HangEnd>()
     ensures { (link_of : ℕ → ℕ) (roll roll_now : RollState H) (side : AdminSide) (world : World) (seat : ℕ)
         (found : connection.Link) → StandsFor H.used link_of roll side world
         → slice_get world.links (link_of seat) ≡ Some found → LeavesPlace H.used seat roll roll_now
-        → HoldsOrHappens (event.Event.Lose (link_of seat)) world (StandsFor H.used link_of roll_now side) }
+        → HoldsOrHappens (event.Event.Lose (link_of seat)) world (λ next.
+        (slice_get next.links (link_of seat) ≡ Some (record found { up = false })) × StandsFor H.used link_of roll_now side next) }
 {}

@@ -17,12 +17,11 @@ returns g c old new key world client ask link found result stands asking up hit 
     let hit_so = hits world client ask link found key asking old.cache hit.verdict stands up hit.found in
     let between : hit.between.cache ≡ old.cache = ap (λ (s : State _ _). s.cache) hit.up.now in
     let now : new.cache ≡ used key old.cache =
-    ap (λ (s : State _ _). s.cache) hit.now ∙ ap (λ (cache : Cache). used key cache) between in
-    (
+    ap (λ (s : State _ _). s.cache) hit.now ∙ ap (λ (cache : Cache). used key cache) between in (
       hit.verdict,
       hit_so.0,
       hit.is,
       subst (λ (cache : Cache). Happens (Hit client hit_so.0) world (λ next.
-      (next ≡ given client ask found.run (Judged hit.verdict) world) × CacheStands cache (client_of next client)))
+          (next ≡ given client ask found.run (Judged hit.verdict) world) × CacheStands cache (client_of next client)))
           (sym now) hit_so.1,
     )
