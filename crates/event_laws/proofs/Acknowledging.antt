@@ -1,5 +1,5 @@
 -- What is answered as done is acknowledged.
-use Rattle.std.proofs.Common.{◌≡◌, ◌⊎◌, inl, inr, ◌∙◌, ◌<◌, ◌≤◌, ◌++◌, ℕ, Bool, true, false, nat_lt, cond, List, [], ◌∷◌, Option, Some, refl, sym, ap, subst, arith}
+use Rattle.std.proofs.Common.{◌≡◌, inl, inr, ◌∙◌, ◌≤◌, ◌++◌, ℕ, Bool, true, false, nat_lt, cond, List, [], ◌∷◌, Option, Some, refl, sym, ap, arith}
 use mathlib.Core.List.{IsPrefix}
 use Rattle.desk_ports.specs.Disk.{DiskState}
 use Rattle.std.proofs.lemmas.Bool.{ltb-false}
@@ -8,11 +8,11 @@ use Rattle.desk_state.specs.declared.commands.Command.{Command}
 use Rattle.wire_fields.specs.declared.messages.Message.{Message}
 use Rattle.wire_fields.specs.declared.messages.Message.TheVariants.{Done}
 use Rattle.wire_messages.specs.Commands.{command_of}
-use Rattle.live_roll.specs.Events.{HasHung, hung_to}
+use Rattle.live_roll.specs.Events.{HasHung}
 use Rattle.live_roll.specs.Roll.{RollState, IsRoll}
 use Rattle.live_roll.specs.declared.events.Event.{Event}
 use Rattle.live_roll.proofs.Following.{hung_below, hung_later}
-use Rattle.live_desk.specs.History.{IsLast, last_commit}
+use Rattle.live_desk.specs.History.{last_commit}
 use Rattle.live_desk.proofs.Looks.{last_behind}
 use Rattle.admin_door.specs.Adding.{IsAcknowledged}
 use Rattle.admin_door.specs.Side.{AdminSide, with_shown}
@@ -20,7 +20,7 @@ use Rattle.admin_door.specs.Settling.{Settles, with_last_shown}
 use Rattle.admin_door.specs.Due.{AreDue}
 use Rattle.desk_world.specs.World.{World, last}
 use Rattle.desk_world.specs.declared.events.Event.TheVariants.{Acknowledge}
-use Rattle.event_laws.specs.Happens.{Happens, HoldsOrHappens}
+use Rattle.event_laws.specs.Happens.{HoldsOrHappens}
 use Rattle.event_laws.specs.Service.{StandsFor}
 use Rattle.event_laws.proofs.Enabled.{when_enabled, happens}
 

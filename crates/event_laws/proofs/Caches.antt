@@ -1,5 +1,5 @@
 -- What a client that keeps its answers does is an event.
-use Rattle.std.proofs.Common.{◌≡◌, ◌⊎◌, inl, inr, ◌∙◌, ◌<◌, ◌≤◌, ◌&&◌, ◌-◌, ◌==◌, ◌++◌, not, ℕ, zero, suc, Bool, true, false, cond, List, [], ◌∷◌, length, take, max, Option, Some, None, Result, Ok, Err, refl, sym, ap, subst, arith}
+use Rattle.std.proofs.Common.{◌≡◌, ◌⊎◌, inl, inr, ◌∙◌, ◌≤◌, ◌&&◌, ◌-◌, ◌==◌, not, ℕ, zero, suc, Bool, true, false, cond, List, [], ◌∷◌, length, take, max, Option, Some, None, Result, Ok, Err, refl, sym, ap, subst}
 use Rattle.std.specs.Prelude.{slice_get, nat_le, MatchBool}
 use Rattle.std.specs.List.{AllByRecursion}
 use Rattle.std.specs.Map.{lookup, lookup_entry, remove_entry}
@@ -19,16 +19,14 @@ use Rattle.cynara_client.specs.declared.refusals.ClientRefusal.{ClientRefusal}
 use Rattle.cynara_client.specs.declared.refusals.Checked.TheVariants.{Judged as ByPolicies, FromAgent as ByAgent}
 use Rattle.desk_world.specs.Client.{Client, unnamed}
 use Rattle.desk_world.specs.World.{World, client_in, client_of, with_client, put_client}
-use Rattle.desk_world.specs.Clients.{same_question, given, hit_in, kept, deliver_to, delivered, received}
-use Rattle.desk_world.specs.Events.{after}
+use Rattle.desk_world.specs.Clients.{same_question, given, kept, delivered}
 use Rattle.desk_world.specs.declared.clients.Slot.{Slot}
-use Rattle.desk_world.specs.declared.events.Event.{Event}
 use Rattle.desk_world.specs.declared.events.Event.TheVariants.{Hit, Notice, Deliver, Tell}
 use Rattle.desk_world.specs.declared.known.Known.{Known}
 use Rattle.desk_world.specs.declared.links.Link.{Link}
 use Rattle.desk_world.specs.declared.links.Transit.{Transit}
 use Rattle.desk_world.specs.declared.replies.Reply.{Reply}
-use Rattle.desk_world.specs.declared.replies.Reply.TheVariants.{Judged, FromAgent}
+use Rattle.desk_world.specs.declared.replies.Reply.TheVariants.{Judged}
 use Rattle.desk_world.proofs.Keeping.{client-put}
 use Rattle.desk_world.proofs.Lists.{get-append, get-end}
 use Rattle.event_laws.specs.Happens.{Happens}

@@ -1,5 +1,5 @@
 -- How an event is seen to be enabled, and a state to stand for the world behind it.
-use Rattle.std.proofs.Common.{◌≡◌, Bool, true, false, Option, Some, None, refl, sym, ap, subst, ◌∙◌}
+use Rattle.std.proofs.Common.{◌≡◌, Bool, true, Option, Some, None, refl, ap, ◌∙◌}
 use Rattle.std.specs.Prelude.{is_none}
 use Rattle.desk_world.specs.World.{World}
 use Rattle.desk_world.specs.Clients.{when, with_some}

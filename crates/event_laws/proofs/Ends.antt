@@ -1,11 +1,10 @@
 -- Ends in the places of the registry, as one place or all of them change.
 use Rattle.std.proofs.Common.{◌≡◌, ℕ, zero, suc, Bool, true, false, not, ◌&&◌, cond, List, [], ◌∷◌, set, get_or, map, Option, Some, None, refl, sym, ap, subst, ◌∙◌}
 use Rattle.std.specs.Prelude.{slice_get, nat_lt, ◌==◌}
-use Rattle.std.specs.List.{AllByRecursion}
 use Rattle.std.proofs.lemmas.Bool.{eqb-true, eqb-false}
 use Rattle.std.proofs.lemmas.Option.{none-some, same_Some}
 use Rattle.live_roll.specs.declared.entries.Entry.{Entry}
-use Rattle.live_roll.specs.Places.{IsHungUp, IsHungUpIf, IsLeft, AreHungBelow, is_below, IsVacant}
+use Rattle.live_roll.specs.Places.{IsHungUpIf, IsLeft, AreHungBelow, is_below, IsVacant}
 use Rattle.desk_world.specs.Commits.{hung_up, entered_before}
 use Rattle.desk_world.specs.declared.links.Link.{Link}
 use Rattle.desk_world.proofs.Lists.{get-set_same, get-set_other, get-map}

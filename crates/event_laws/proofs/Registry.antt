@@ -1,10 +1,8 @@
 -- What happens in the registry of connections is an event.
-use Rattle.std.proofs.Common.{◌≡◌, ◌⊎◌, inl, inr, ◌<◌, ◌≤◌, ℕ, Bool, true, false, ◌&&◌, ◌==◌, List, [], ◌∷◌, get_or, set, map, max, Option, Some, None, refl, sym, ap, subst, ◌∙◌, arith}
+use Rattle.std.proofs.Common.{◌≡◌, inl, inr, ◌≤◌, ℕ, Bool, true, false, ◌&&◌, ◌==◌, Some, None, refl, sym, ap, subst, ◌∙◌, arith}
 use Rattle.std.specs.Prelude.{slice_get, is_none}
 use Rattle.std.proofs.lemmas.Bool.{and_from, eq-eqb}
-use Rattle.live_roll.specs.Places.{IsLeft}
 use Rattle.live_roll.specs.Roll.{RollState, with_entry, LeavesPlace, HangsTo}
-use Rattle.live_roll.specs.declared.entries.Entry.{Entry}
 use Rattle.live_desk.specs.History.{last_commit}
 use Rattle.live_desk.specs.Seat.{SeatState, EntersAt}
 use Rattle.admin_door.specs.Side.{AdminSide}
@@ -16,7 +14,7 @@ use Rattle.desk_world.specs.declared.events.Half.TheVariants.{Enter}
 use Rattle.desk_world.specs.declared.links.Link.{Link}
 use Rattle.desk_world.proofs.Lists.{get-set_same}
 use Rattle.event_laws.specs.Happens.{Happens, HoldsOrHappens}
-use Rattle.event_laws.specs.Service.{StandsFor, IsEndOf, EndsStand, entered_in}
+use Rattle.event_laws.specs.Service.{StandsFor, entered_in}
 use Rattle.event_laws.proofs.Enabled.{some_enabled, when_enabled, happens, no_some}
 use Rattle.event_laws.proofs.Ends.{ends_entered, ends_hung, ends_left, ends_relinked}
 

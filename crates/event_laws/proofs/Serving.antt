@@ -1,5 +1,5 @@
 -- What a worker of clients reads and sends is an event.
-use Rattle.std.proofs.Common.{◌≡◌, ◌∙◌, ◌<◌, ◌≤◌, ◌&&◌, ℕ, Bool, true, false, List, [], ◌∷◌, set, Option, Some, None, Ok, Err, refl, sym, ap, subst, arith}
+use Rattle.std.proofs.Common.{◌≡◌, ◌∙◌, ◌≤◌, ◌&&◌, ℕ, Bool, true, List, ◌∷◌, Option, Some, None, Ok, Err, refl, sym, ap, subst, arith}
 use Rattle.std.specs.Prelude.{slice_get, is_some}
 use Rattle.std.proofs.lemmas.Bool.{and_from}
 use Rattle.std.proofs.lemmas.Option.{none-some, same_Some}
@@ -16,13 +16,12 @@ use Rattle.client_door.specs.Asking.{ask_made, LeadsTo, LeadsToReply}
 use Rattle.client_door.specs.Reading.{reading}
 use Rattle.server_hall.specs.Call.{AskMade, AskResult}
 use Rattle.server_hall.specs.declared.refusals.AskRefusal.TheVariants.{Put, Gone, Stopped as AskStopped, Lost, Withdrawn}
-use Rattle.desk_world.specs.World.{World, history, root_outcome, desk_at, with_link, entry_at}
-use Rattle.desk_world.specs.Links.{is_nothing, may_read, read_at, reading_of, outgoing, settled, settled_by, write_on}
+use Rattle.desk_world.specs.World.{World, history, root_outcome, desk_at, with_link}
+use Rattle.desk_world.specs.Links.{is_nothing, may_read, reading_of, outgoing, settled, settled_by}
 use Rattle.desk_world.specs.declared.agent_entries.AgentEntry.{AgentEntry}
 use Rattle.desk_world.specs.declared.agent_entries.EntryState.{EntryState}
 use Rattle.desk_world.specs.declared.agent_entries.EntryState.TheVariants.{Gone as HasGone, Answered as IsAnswered}
 use Rattle.desk_world.specs.declared.events.Event.TheVariants.{Read, Write}
-use Rattle.desk_world.specs.declared.links.Asked.{Asked}
 use Rattle.desk_world.specs.declared.links.Link.{Link}
 use Rattle.desk_world.specs.declared.links.Reading.{Reading}
 use Rattle.desk_world.specs.declared.links.Reading.TheVariants.{Nothing, Ready, Due, Waiting}

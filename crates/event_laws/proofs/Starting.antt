@@ -1,13 +1,13 @@
 -- A service that is started behind a crash is what the world is behind a stop.
-use Rattle.std.proofs.Common.{◌≡◌, ◌⊎◌, inl, inr, ◌∙◌, ◌<◌, ℕ, Bool, true, false, List, [], ◌∷◌, ◌++◌, Option, Some, None, refl, sym, ap, subst, arith}
+use Rattle.std.proofs.Common.{◌≡◌, inl, inr, ◌∙◌, ℕ, Bool, true, false, List, [], ◌∷◌, ◌++◌, Option, Some, None, refl, sym, ap, subst, arith}
 use Rattle.desk_state.specs.DeskState.{DeskState}
 use Rattle.desk_state.specs.Next.{next as next_state}
 use Rattle.desk_state.specs.declared.commands.Command.{Command}
-use Rattle.live_roll.specs.Roll.{RollState, IsNew}
+use Rattle.live_roll.specs.Roll.{RollState}
 use Rattle.live_desk.specs.History.{Rises, last_commit}
 use Rattle.admin_door.specs.Side.{AdminSide}
-use Rattle.desk_world.specs.World.{World, fresh, history, latest, last, with_commit}
-use Rattle.desk_world.specs.Commits.{may_store, committed, under_way, may_stop, restarted}
+use Rattle.desk_world.specs.World.{World, fresh, latest, with_commit}
+use Rattle.desk_world.specs.Commits.{may_store, committed, restarted}
 use Rattle.desk_world.specs.Events.{after}
 use Rattle.desk_world.specs.Kept.{IsKept}
 use Rattle.desk_world.specs.declared.events.Event.TheVariants.{Stop}

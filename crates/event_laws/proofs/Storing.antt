@@ -1,5 +1,5 @@
 -- What an administrator's worker keeps and publishes is an event.
-use Rattle.std.proofs.Common.{◌≡◌, ◌⊎◌, inl, inr, ◌∙◌, ◌<◌, ◌≤◌, ◌+◌, ◌&&◌, ◌==◌, ℕ, Bool, true, false, nat_lt, cond, List, [], ◌∷◌, ◌++◌, Option, Some, None, refl, sym, ap, subst, append_assoc, arith}
+use Rattle.std.proofs.Common.{◌≡◌, inl, inr, ◌∙◌, ◌<◌, ◌≤◌, ◌&&◌, ◌==◌, ℕ, Bool, true, false, nat_lt, cond, List, [], ◌∷◌, ◌++◌, Option, Some, None, refl, sym, ap, subst, append_assoc, arith}
 use Rattle.std.specs.Prelude.{is_none}
 use Rattle.std.proofs.lemmas.Bool.{and_from, eq-eqb, lt-ltb, le-ltb}
 use Rattle.std.proofs.lemmas.List.{append-nil}
@@ -10,20 +10,19 @@ use Rattle.desk_state.specs.Rules.{fault}
 use Rattle.desk_state.specs.declared.commands.Command.{Command}
 use Rattle.wire_fields.specs.declared.messages.Message.{Message}
 use Rattle.live_roll.specs.Roll.{RollState}
-use Rattle.live_desk.specs.History.{Rises, last_commit}
+use Rattle.live_desk.specs.History.{last_commit}
 use Rattle.live_desk.proofs.Looks.{shown_behind, last_behind}
 use Rattle.admin_door.specs.Side.{AdminSide, with_kept, with_shown, with_fault}
 use Rattle.admin_door.specs.Answering.{IsDone, IsUnpublished, HasFailed}
 use Rattle.admin_door.specs.Settling.{IsFound}
 use Rattle.desk_world.specs.World.{World, history, latest, last, with_commit}
 use Rattle.desk_world.specs.Commits.{may_store, decided}
-use Rattle.desk_world.specs.Kept.{Follows}
 use Rattle.desk_world.specs.declared.events.Event.TheVariants.{Stored, Undecided, Decide, Publish}
 use Rattle.desk_world.proofs.Committing.{latest-push}
 use Rattle.event_laws.specs.Happens.{Happens}
-use Rattle.event_laws.specs.Service.{StandsFor, EndsStand, IsHistory, unpublished}
+use Rattle.event_laws.specs.Service.{StandsFor, unpublished}
 use Rattle.event_laws.specs.Store.{IsFoundAs}
-use Rattle.event_laws.proofs.Enabled.{some_enabled, when_enabled, happens, no_some, is_no_some}
+use Rattle.event_laws.proofs.Enabled.{some_enabled, when_enabled, happens, no_some}
 
 pub done_so : (command : Command) (settled now : AdminSide) (replies : List Message) → IsDone command settled now replies
     → (between : AdminSide) × IsUnpublished command settled between × (now ≡ with_shown between.desk between)

@@ -4,7 +4,6 @@ use Rattle.cynara_keys.specs.declared.results.Kind.{Kind}
 use Rattle.agent_table.specs.declared.refusals.PutRefusal.{PutRefusal}
 use Rattle.agent_table.specs.declared.refusals.PutRefusal.TheVariants.{NoAgent as NoneThere, Full, Spent}
 use Rattle.desk_state.specs.DeskState.{DeskState}
-use Rattle.client_door.specs.Answered.{Answered}
 use Rattle.client_door.specs.Reading.{reading}
 use Rattle.client_door.specs.declared.checks.Check.{Check}
 use Rattle.server_hall.specs.Call.{AskResult}

@@ -1,8 +1,7 @@
-use Rattle.std.proofs.Common.{◌≡◌, ◌∙◌, ℕ, Ok, ap, subst, sym}
+use Rattle.std.proofs.Common.{◌≡◌, ◌∙◌, ap, subst, sym}
 use Rattle.answer_cache.specs.Cache.{Cache, used}
 use Rattle.cynara_client.specs.State.{State}
-use Rattle.cynara_client.specs.declared.refusals.Checked.TheVariants.{Judged as ByPolicies}
-use Rattle.desk_world.specs.World.{World, client_of}
+use Rattle.desk_world.specs.World.{client_of}
 use Rattle.desk_world.specs.Clients.{given}
 use Rattle.desk_world.specs.declared.events.Event.TheVariants.{Hit}
 use Rattle.desk_world.specs.declared.replies.Reply.TheVariants.{Judged}
