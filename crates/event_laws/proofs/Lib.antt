@@ -1,6 +1,7 @@
 pub mod Enabled
 pub mod Ends
 pub mod Registry
+pub mod Stopping
 pub mod History
 pub mod Storing
 pub mod Acknowledging

@@ -26,11 +26,11 @@ pub fn a_new_client_stands()
         → client_of world client ≡ unnamed → CacheStands (empty_cache most) (client_of world client) }
 {}
 
-/// A check that `Client` answers by an entry is the event `Hit`, where the connection that said that it is up is up: `Hits` of
-/// `Client::check`. The reply that is given is the verdict that the call answers.
+/// A check that `Client` answers by an entry is the event `Hit`, where the connection that said that it is up is up:
+/// `Hits` of `Client::check`. The reply that is given is the verdict that the call answers.
 pub fn a_hit_is_an_event<N: Dial>()
-    ensures { (old new : State N N.Link) (key : cache_of.Asked) (world : World) (client ask link : ℕ) (found : connection.Link)
-        (result : Result checked_of.Checked refusal_of.ClientRefusal)
+    ensures { (old new : State N N.Link) (key : cache_of.Asked) (world : World) (client ask link : ℕ)
+        (found : connection.Link) (result : Result checked_of.Checked refusal_of.ClientRefusal)
         → CacheStands old.cache (client_of world client) → IsAsking world client ask key.question link found
         → found.up ≡ true → Hits N.Link.faults N.Link.marks N.Link.traffic N.Link.content key result old new
         → (verdict : verdict_of.Verdict) × (entry : ℕ) × (result ≡ Ok (checked_of.Checked.Judged verdict))
@@ -39,7 +39,8 @@ pub fn a_hit_is_an_event<N: Dial>()
         × CacheStands new.cache (client_of next client)) }
 {}
 
-/// A client that finds its connection down is the event `Notice`, where that is closed: `FindsDown` of `Client::check`. No entry is left.
+/// A client that finds its connection down is the event `Notice`, where that is closed: `FindsDown` of
+/// `Client::check`. No entry is left.
 pub fn a_closed_connection_is_noticed<N: Dial>()
     ensures { (old new : State N N.Link) (world : World) (client link : ℕ) (found : connection.Link)
         → CacheStands old.cache (client_of world client) → (client_of world client).link ≡ Some link
@@ -48,11 +49,13 @@ pub fn a_closed_connection_is_noticed<N: Dial>()
         → Happens (event.Event.Notice client) world (λ next. CacheStands new.cache (client_of next client)) }
 {}
 
-/// A reply that came over the connection of an open question is the event `Deliver`: what `Client::check` then keeps (`IsKeptOf`)
-/// are verdicts that the client received over this connection. Behind a reply that says why there is no answer it keeps what it kept.
+/// A reply that came over the connection of an open question is the event `Deliver`: what `Client::check` then keeps
+/// (`IsKeptOf`) are verdicts that the client received over this connection. Behind a reply that says why there is no
+/// answer it keeps what it kept.
 pub fn a_received_reply_is_an_event()
-    ensures { (old new : cache_of.Cache) (key : cache_of.Asked) (result : Result checked_of.Checked refusal_of.ClientRefusal)
-        (world : World) (client ask link : ℕ) (found : connection.Link) (transit : transit_of.Transit)
+    ensures { (old new : cache_of.Cache) (key : cache_of.Asked)
+        (result : Result checked_of.Checked refusal_of.ClientRefusal) (world : World) (client ask link : ℕ)
+        (found : connection.Link) (transit : transit_of.Transit)
         → CacheStands old (client_of world client) → IsAsking world client ask key.question link found
         → found.reply ≡ Some transit → transit.ask ≡ ask → Says transit.reply result → KeepsBehind key result old new
         → Happens (event.Event.Deliver client) world (λ next. CacheStands new (client_of next client)) }

@@ -30,7 +30,8 @@ pub fn a_command_that_is_done_was_stored_and_shown()
 
 /// A commit that the keeper answered with Ok is the event `Stored`, where what was committed before is acknowledged.
 pub fn a_commit_is_stored<H: HangEnd>()
-    ensures { (link_of : ℕ → ℕ) (roll : RollState H) (side now : AdminSide) (world : World) (command : command_of_state.Command)
+    ensures { (link_of : ℕ → ℕ) (roll : RollState H) (side now : AdminSide) (world : World)
+        (command : command_of_state.Command)
         → StandsFor H.used link_of roll side world → side.decided ≡ true → world.acknowledged ≡ last world
         → IsUnpublished command side now
         → Happens (event.Event.Stored command) world (StandsFor H.used link_of roll now) }
@@ -38,15 +39,15 @@ pub fn a_commit_is_stored<H: HangEnd>()
 
 /// A commit that failed is the event `Undecided`, where what was committed before is acknowledged.
 pub fn a_failed_commit_is_undecided<H: HangEnd>()
-    ensures { (link_of : ℕ → ℕ) (roll : RollState H) (side now : AdminSide) (world : World) (command : command_of_state.Command)
-        (replies : List message_of_wire.Message)
+    ensures { (link_of : ℕ → ℕ) (roll : RollState H) (side now : AdminSide) (world : World)
+        (command : command_of_state.Command) (replies : List message_of_wire.Message)
         → StandsFor H.used link_of roll side world → side.decided ≡ true → world.acknowledged ≡ last world
         → HasFailed command side now replies
         → Happens (event.Event.Undecided command) world (StandsFor H.used link_of roll now) }
 {}
 
-/// A remount behind a failed commit is the event `Decide`, where it finds the state before that commit or behind it, which is what
-/// the keeper's commit leaves.
+/// A remount behind a failed commit is the event `Decide`, where it finds the state before that commit or behind it,
+/// which is what the keeper's commit leaves.
 pub fn a_remount_decides<H: HangEnd>()
     ensures { (link_of : ℕ → ℕ) (roll : RollState H) (old now : AdminSide) (world : World) (told : Option DiskState)
         → StandsFor H.used link_of roll old world → old.decided ≡ false → IsFound told old now
@@ -54,7 +55,8 @@ pub fn a_remount_decides<H: HangEnd>()
         → (kept : Bool) × Happens (event.Event.Decide kept) world (StandsFor H.used link_of roll now) }
 {}
 
-/// A publication is the event `Publish`: what the publisher was shown behind a commit, or once recovery found it kept.
+/// A publication is the event `Publish`: what the publisher was shown behind a commit, or once recovery found it
+/// kept.
 pub fn a_publication_is_an_event<H: HangEnd>()
     ensures { (link_of : ℕ → ℕ) (roll : RollState H) (side : AdminSide) (world : World)
         → StandsFor H.used link_of roll side world → side.decided ≡ true
@@ -62,20 +64,22 @@ pub fn a_publication_is_an_event<H: HangEnd>()
         → Happens event.Event.Publish world (StandsFor H.used link_of roll (with_shown side.desk side)) }
 {}
 
-/// Where the replies of a command are due that is answered as done, its commit is acknowledged, or the event `Acknowledge` is enabled
-/// and acknowledges it: all who entered below it are disconnected by then.
+/// Where the replies of a command are due that is answered as done, its commit is acknowledged, or the event
+/// `Acknowledge` is enabled and acknowledges it: all who entered below it are disconnected by then.
 pub fn what_is_answered_as_done_is_acknowledged<H: HangEnd>()
-    ensures { (link_of : ℕ → ℕ) (roll : RollState H) (now : AdminSide) (world : World) (message : message_of_wire.Message)
-        (hangs : List roll_event.Event) (replies : List message_of_wire.Message) (command : command_of_state.Command)
-        (commit erased : ℕ) → StandsFor H.used link_of roll now world → IsRoll H.used roll
+    ensures { (link_of : ℕ → ℕ) (roll : RollState H) (now : AdminSide) (world : World)
+        (message : message_of_wire.Message) (hangs : List roll_event.Event) (replies : List message_of_wire.Message)
+        (command : command_of_state.Command) (commit erased : ℕ)
+        → StandsFor H.used link_of roll now world → IsRoll H.used roll
         → IsPrefix hangs roll.events → AreDue message now hangs replies → command_of message ≡ Some command
         → replies ≡ message_of_wire.Message.Done commit erased ∷ []
         → HoldsOrHappens event.Event.Acknowledge world
         (λ next. (next.acknowledged ≡ commit) × StandsFor H.used link_of roll now next) }
 {}
 
-/// Where an earlier command is settled (`Settles`), and all connections are disconnected that entered below what was published last,
-/// the last commit is acknowledged, or the event `Acknowledge` is enabled and acknowledges it: so the next command may be committed.
+/// Where an earlier command is settled (`Settles`), and all connections are disconnected that entered below what was
+/// published last, the last commit is acknowledged, or the event `Acknowledge` is enabled and acknowledges it: so the
+/// next command may be committed.
 pub fn what_is_settled_is_acknowledged<H: HangEnd>()
     ensures { (link_of : ℕ → ℕ) (roll : RollState H) (old now : AdminSide) (world : World) (told : Option DiskState)
         → StandsFor H.used link_of roll now world → Settles told old now → roll.note ≡ last_commit 0 now.published
@@ -89,11 +93,11 @@ pub fn a_started_service_is_a_fresh_world<H: HangEnd>()
         → IsStarted desk workers roll side → StandsFor H.used link_of roll side (fresh desk) }
 {}
 
-/// A crash, and a service that is then started with what is found in the folder, is the event `Stop`: what is found is the last
-/// state that is known to be kept, or that of a commit under way.
+/// A crash, and a service that is then started with what is found in the folder, is the event `Stop`: what is found
+/// is the last state that is known to be kept, or that of a commit under way.
 pub fn a_start_is_behind_a_stop<H: HangEnd>()
-    ensures { (link_of : ℕ → ℕ) (roll roll_now : RollState H) (side side_now : AdminSide) (world : World) (desk : DeskState)
-        (workers : ℕ) → StandsFor H.used link_of roll side world → IsLeftBehind side world desk
+    ensures { (link_of : ℕ → ℕ) (roll roll_now : RollState H) (side side_now : AdminSide) (world : World)
+        (desk : DeskState) (workers : ℕ) → StandsFor H.used link_of roll side world → IsLeftBehind side world desk
         → IsStarted desk workers roll_now side_now
         → (command : Option command_of_state.Command) × (kept : Bool)
         × Happens (event.Event.Stop command kept) world (StandsFor H.used link_of roll_now side_now) }

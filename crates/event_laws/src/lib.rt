@@ -1,6 +1,7 @@
-//! The calls of a running service and the events of the world of `desk_world`: a law for each event, which says that the clause of
-//! its call makes it enabled, and that the world behind it stands for what the call left. What stands for what is `StandsFor`. The
-//! functions do nothing; their clauses are the laws.
+//! The calls of a running service and of its clients, and the events of the world of `desk_world`: laws, each of
+//! which says that the clause of a call makes its event enabled, and that what the call left stands for the world
+//! behind it (`StandsFor`, `CacheStands`). What agents do has none, nor most of what a client sends. The functions do
+//! nothing; their clauses are the laws.
 #![tactic(auto)]
 
 mod clients;
@@ -18,5 +19,8 @@ pub use commits::{
     a_started_service_is_a_fresh_world, what_is_answered_as_done_is_acknowledged,
     what_is_settled_is_acknowledged,
 };
-pub use connections::{a_disconnect_is_an_event, an_entry_is_an_event, who_leaves_is_disconnected};
+pub use connections::{
+    a_disconnect_is_an_event, a_stop_disconnects_all, an_entry_is_an_event,
+    who_leaves_is_disconnected,
+};
 pub use workers::{a_check_is_read, a_reply_is_written, what_comes_of_an_agent_is_written};

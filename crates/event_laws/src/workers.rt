@@ -18,8 +18,9 @@ ghost use Rattle.event_laws.specs.Worker.{HasCheck, HasOutcome, once_read, once_
 
 use link_ports::HangEnd;
 
-/// A check that a worker answers is read by the event `Read`: `read` of what a worker of clients says of each of its connections, where
-/// the state of the check was published by then. The states that the seat has seen may be more. The next check is read no lower.
+/// A check that a worker answers is read by the event `Read`: `read` of what a worker of clients says of each of its
+/// connections, where the state of the check was published by then. The states that the seat has seen may be more.
+/// The next check is read no lower.
 pub fn a_check_is_read<H: HangEnd>()
     ensures { (link_of : ℕ → ℕ) (roll : RollState H) (side : AdminSide) (world : World) (link ask low : ℕ)
         (found : connection.Link) (seen : List DeskState) (one : Answered) (more : List Answered)
@@ -31,8 +32,8 @@ pub fn a_check_is_read<H: HangEnd>()
         × StandsFor H.used link_of roll side next × AreReadIn seen one.desk.commit more) }
 {}
 
-/// The reply to a check that the policies decide, or that asks no agent, is sent by the event `Write`, where the connection is up:
-/// `right` of what a worker of clients says.
+/// The reply to a check that the policies decide, or that asks no agent, is sent by the event `Write`, where the
+/// connection is up: `right` of what a worker of clients says.
 pub fn a_reply_is_written<H: HangEnd>()
     ensures { (link_of : ℕ → ℕ) (roll : RollState H) (side : AdminSide) (world : World) (link ask : ℕ)
         (found : connection.Link) (one : Answered)
@@ -43,8 +44,8 @@ pub fn a_reply_is_written<H: HangEnd>()
         (next ≡ with_link link (once_sent ask one.reply found) world) × StandsFor H.used link_of roll side next) }
 {}
 
-/// So is the reply to a check that asks an agent, where the world has what `ask` gave (`HasOutcome`): an entry of the agents' log that
-/// is answered or gone, or that the question was not put.
+/// So is the reply to a check that asks an agent, where the world has what `ask` gave (`HasOutcome`): an entry of the
+/// agents' log that is answered or gone, or that the question was not put.
 pub fn what_comes_of_an_agent_is_written<H: HangEnd>()
     ensures { (link_of : ℕ → ℕ) (roll : RollState H) (side : AdminSide) (world : World) (link ask commit : ℕ)
         (kind : kind_of.Kind) (metadata : List ℕ) (found : connection.Link) (one : Answered) (result : AskResult)
