@@ -70,6 +70,14 @@ module _ {H : Type 0} (used : H → Bool) (link_of : ℕ → ℕ) (roll : RollSt
         let low = ltb-false world.acknowledged world.note above in
         let high = stands.kept.ordered.acknowledged in inl (already (omega (arith, low, high)))
 
+  pub even_so : last_commit 0 now.published ≡ now.desk.commit → roll.note ≡ last_commit 0 now.published
+      → HoldsOrHappens Acknowledge world (λ next. (next.acknowledged ≡ last next) × StandsFor used link_of roll now next)
+  even_so even hung =
+      let same : world.note ≡ last world =
+      stands.note ∙ (hung ∙ (even ∙ sym (ap (λ (desk : DeskState). desk.commit) stands.last))) in
+      of_note (λ next. (next.acknowledged ≡ last next) × StandsFor used link_of roll now next) (λ is. (is ∙ same, stands))
+      (λ still. (same, still))
+
   pub settled_so : (old : AdminSide) (told : Option DiskState) → Settles told old now → roll.note ≡ last_commit 0 now.published
       → HoldsOrHappens Acknowledge world (λ next.
       (now.decided ≡ true) × (next.acknowledged ≡ last next) × StandsFor used link_of roll now next)

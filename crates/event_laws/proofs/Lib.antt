@@ -5,6 +5,7 @@ pub mod Stopping
 pub mod History
 pub mod Storing
 pub mod Acknowledging
+pub mod Commanding
 pub mod Starting
 pub mod Serving
 pub mod Caches

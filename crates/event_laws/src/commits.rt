@@ -6,7 +6,7 @@ ghost use Rattle.desk_state.specs.DeskState.{DeskState};
 ghost use Rattle.desk_state.specs.declared.commands.Command as command_of_state;
 ghost use Rattle.wire_fields.specs.declared.messages.Message as message_of_wire;
 ghost use Rattle.wire_messages.specs.Commands.{command_of};
-ghost use Rattle.live_roll.specs.Roll.{RollState, IsRoll, IsNew};
+ghost use Rattle.live_roll.specs.Roll.{RollState, IsRoll, HangsTo};
 ghost use Rattle.live_roll.specs.declared.events.Event as roll_event;
 ghost use Rattle.live_desk.specs.History.{last_commit};
 ghost use Rattle.admin_door.specs.Side.{AdminSide, with_shown};
@@ -85,6 +85,19 @@ pub fn what_is_settled_is_acknowledged<H: HangEnd>()
         → StandsFor H.used link_of roll now world → Settles told old now → roll.note ≡ last_commit 0 now.published
         → HoldsOrHappens event.Event.Acknowledge world (λ next.
         (now.decided ≡ true) × (next.acknowledged ≡ last next) × StandsFor H.used link_of roll now next) }
+{}
+
+/// So a command that is answered as done is the events `Stored`, `Publish`, `Hang` and `Acknowledge` in turn, where
+/// what was committed before is acknowledged and the connections are disconnected behind it. What stands then is what
+/// the next command asks for.
+pub fn a_command_is_four_events<H: HangEnd>()
+    ensures { (link_of : ℕ → ℕ) (roll roll_now : RollState H) (settled now : AdminSide) (world : World)
+        (command : command_of_state.Command) (replies : List message_of_wire.Message)
+        → StandsFor H.used link_of roll settled world → settled.decided ≡ true → world.acknowledged ≡ last world
+        → IsDone command settled now replies → HangsTo H.used (last_commit 0 now.published) roll roll_now
+        → Happens (event.Event.Stored command) world (λ stored. Happens event.Event.Publish stored (λ published.
+        Happens event.Event.Hang published (λ hung. HoldsOrHappens event.Event.Acknowledge hung (λ next.
+        (now.decided ≡ true) × (next.acknowledged ≡ last next) × StandsFor H.used link_of roll_now now next)))) }
 {}
 
 /// A service that is started for the first time stands for a fresh world, where that is of its state.

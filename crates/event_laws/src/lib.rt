@@ -14,10 +14,10 @@ pub use clients::{
     a_received_reply_is_an_event, a_told_commit_is_an_event,
 };
 pub use commits::{
-    a_command_that_is_done_was_stored_and_shown, a_commit_is_stored, a_failed_commit_is_undecided,
-    a_publication_is_an_event, a_remount_decides, a_start_is_behind_a_stop,
-    a_started_service_is_a_fresh_world, what_is_answered_as_done_is_acknowledged,
-    what_is_settled_is_acknowledged,
+    a_command_is_four_events, a_command_that_is_done_was_stored_and_shown, a_commit_is_stored,
+    a_failed_commit_is_undecided, a_publication_is_an_event, a_remount_decides,
+    a_start_is_behind_a_stop, a_started_service_is_a_fresh_world,
+    what_is_answered_as_done_is_acknowledged, what_is_settled_is_acknowledged,
 };
 pub use connections::{
     a_disconnect_is_an_event, a_stop_disconnects_all, an_entry_is_an_event,
