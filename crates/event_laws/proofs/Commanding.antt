@@ -1,5 +1,5 @@
 -- A command that is answered as done is four events in turn.
-use Rattle.std.proofs.Common.{◌≡◌, ◌⊎◌, inl, inr, ◌∙◌, ◌<◌, ◌++◌, ℕ, Bool, true, List, [], ◌∷◌, max, refl, sym, ap, subst, arith}
+use Rattle.std.proofs.Common.{◌≡◌, inl, inr, ◌∙◌, ◌<◌, ◌++◌, ℕ, Bool, true, List, [], ◌∷◌, refl, sym, ap, subst, arith}
 use Rattle.desk_state.specs.DeskState.{DeskState}
 use Rattle.desk_state.specs.Next.{next as next_state}
 use Rattle.desk_state.specs.declared.commands.Command.{Command}

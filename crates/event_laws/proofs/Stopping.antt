@@ -13,7 +13,7 @@ use Rattle.desk_world.specs.declared.events.Event.TheVariants.{Lose}
 use Rattle.desk_world.specs.declared.links.Link.{Link}
 use Rattle.desk_world.proofs.Lists.{get-set_same, get-set_other}
 use Rattle.event_laws.specs.Happens.{AreLost}
-use Rattle.event_laws.specs.Service.{StandsFor, IsEndOf}
+use Rattle.event_laws.specs.Service.{StandsFor}
 use Rattle.event_laws.proofs.Enabled.{some_enabled, when_enabled, kept_behind}
 use Rattle.event_laws.proofs.Ends.{ends_relinked}
 
