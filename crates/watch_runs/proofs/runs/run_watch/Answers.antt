@@ -44,24 +44,24 @@ serve_watched-served-requires-clause-recorders g c κs within =
     as_many c.in-Ok.reader.queue c.args.workers c.in-Ok.recorders.items (search rules)
 
 -- nobody was served
-pub returns-in-Err-served : goal.returns-in-Err-served
-returns-in-Err-served g c = (
-  c.in-Err-served.ending,
+pub returns-in-Err : goal.returns-in-Err
+returns-in-Err g c = (
+  c.in-Err.ending,
   GoesOn,
   c.in-Ok.reader.queue,
   None,
   subst (λ (starts : List Post). RunsServe (λ (post : Post). post.seat)
       (VisitsWatched g.N.Door.Link.Link.traffic g.N.Door.Link.Link.marks g.N.Door.Link.Link.faults)
       g.N.Door.Link.Link.traffic g.N.Door.Link.Link.marks g.N.Door.Link.Link.faults g.N.Door.Door.given_back g.N.Door.Door.faults
-      g.N.Door.Door.kind starts None c.in-Err-served.ending
+      g.N.Door.Door.kind starts None c.in-Err.ending
       (disk_seen g.D.Disk.state g.D.Disk.moment g.D.Disk.left_since g.D.Disk.faults c.args.disk.now)
       (disk_seen g.D.Disk.state g.D.Disk.moment g.D.Disk.left_since g.D.Disk.faults c.serve_watched-served.new.disk)
       (g.N.Dial.faults c.args.net.now) (g.N.Dial.faults c.serve_watched-served.new.net)
       (g.N.Net.closed c.args.net.now) (g.N.Net.closed c.serve_watched-served.new.net))
-      (posts_begun c.in-Ok.reader.queue c.args.workers c.in-Ok.recorders.items (search rules)) c.in-Err-served.ensures.refuses,
+      (posts_begun c.in-Ok.reader.queue c.args.workers c.in-Ok.recorders.items (search rules)) c.in-Err.ensures.refuses,
   Journaled.unserved refl refl
-      (ap (λ k. sink_seen g.K.Sink.taken g.K.Sink.faults k) c.in-Err-served.ensures.untouched),
-  stays_so c.in-Err-served.ending,
+      (ap (λ k. sink_seen g.K.Sink.taken g.K.Sink.faults k) c.in-Err.ensures.untouched),
+  stays_so c.in-Err.ending,
 )
 
 -- the recorders are still all those of the reader

@@ -32,8 +32,8 @@ returns-in-Some-clause-same g c =
     (g.N.Dial.faults c.args.net.now) (g.N.Dial.faults c.run_service-run.new.net)
     (g.N.Net.closed c.args.net.now) (g.N.Net.closed c.run_service-run.new.net) c.requires.recorders runs are
 
-pub returns-in-None-clause-refuses : goal.returns-in-None-clause-refuses
-returns-in-None-clause-refuses g c =
+pub returns-clause-refuses : goal.returns-clause-refuses
+returns-clause-refuses g c =
     let runs = c.run_service-run.ensures.runs in
     left_none
     (λ (left : Option (List Post)). RunsServe (λ (post : Post). post.seat)
