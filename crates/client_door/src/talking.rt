@@ -1,28 +1,30 @@
 // The checks of a connection, answered in turn.
-ghost use Rattle.std.specs.Prelude.{◌≡◌, ◌<◌, ◌≤◌, ℕ, List, [], length, take, None, if◌then◌else◌};
-ghost use Rattle.std.specs.Prelude.{MatchResult, IfOk, OnOk};
+ghost use Rattle.std.specs.Prelude.{◌≡◌, ◌<◌, ◌≤◌, [], length, take, None, MatchResult, IfOk, OnOk};
+ghost use Rattle.desk_state.specs.DeskState.{DeskState};
+ghost use Rattle.live_desk.specs.Seat.{SeatState};
 ghost use Rattle.wire_fields.specs.declared.operations.Heard.TheVariants.{AtClient};
-ghost use Rattle.wire_reading.specs.Stream.{unfed, first_of, Whole};
+ghost use Rattle.wire_reading.specs.Stream.{unfed};
 ghost use Rattle.door_frames.specs.Hearing.{IsSound};
-ghost use Rattle.client_door.specs.Check.{framed_of};
-ghost use Rattle.client_door.specs.InPlace.{check_read};
+ghost use Rattle.door_frames.specs.declared.endings.Ended.TheVariants.{Memory};
 ghost use Rattle.client_door.specs.Recording.{Leads};
 ghost use Rattle.client_door.specs.Serving.{ClientSide, Talks, recorded_side};
-ghost use Rattle.client_door.specs.parts.Talk.{Goes, Ends, Stands, HasPiece, Reads, EndsReading, with_sent, with_read};
+ghost use Rattle.client_door.specs.parts.Talk.{Goes, Ends, Stands, HasPiece, IsReadNow, ReadsAt, EndsReading};
+ghost use Rattle.client_door.specs.parts.Talk.{with_sent, with_read};
 
 mod waiting;
 
-use crate::judging::Ruling;
-use crate::outboxes::{KeptRuling, Outbox};
-use crate::{Decision, Records};
+use crate::Records;
+use crate::outboxes::Outbox;
+use crate::pieces::answer_at_one_state;
+use bucket_eval::Scratch;
 use desk_ports::Bytes;
 use door_frames::{Ended, hear_piece, receive_piece};
 use link_ports::{Gate, Link};
-use live_desk::{Naming, Seat};
+use live_desk::{DeskCopy, Naming, Seat};
 use server_hall::Hall;
-use std::alloc::Global;
+use std::alloc::{AllocError, Global};
 use std::sync::Wait;
-use wire_messages::{Feeder, Heard, LentCheck, check_in_front};
+use wire_messages::{Feeder, Heard};
 
 /// What a connection has heard and not answered yet, and the replies that are not sent yet.
 #[derive(Drop)]
@@ -156,69 +158,39 @@ impl Talk {
                 hear_piece(&mut self.feeder, rest);
                 Ok(())
             }
-            Err(ended) => Err(ended),
+            Err(_) => Err(Ended::Memory),
         }
     }
 
     // Answers the checks that stand whole at the front of a piece, each where it stands, up to one that the policies
-    // leave to an agent. Gives what is behind them.
+    // leave to an agent. Gives what is behind them. All are answered at one state, which is the last that the seat has then
+    // seen, and so no older than the entry of the connection.
     fn answer_piece<'a, R: Wait, J: Naming, M: Records>(
         &mut self,
         rt: &R,
         seat: &mut Seat<J>,
         recorder: &mut M,
         piece: &'a [u8],
-    ) -> Result<&'a [u8], Ended>
+    ) -> Result<&'a [u8], AllocError>
         ensures feeder { self.new.feeder ≡ self.old.feeder }
-        ensures talk { (side : ClientSide) → MatchResult result
-            (λ rest. Leads (M.fits recorder.old) (M.fits recorder.new) (λ before after.
-            Reads (with_read side seat.old before) piece.now self.old.outbox (with_read side seat.new after) rest.now self.new.outbox))
-            (λ ended. Leads (M.fits recorder.old) (M.fits recorder.new) (λ before after.
-            EndsReading (with_read side seat.old before) piece.now self.old.outbox (with_read side seat.new after) ended)) }
+        ensures talk { (desk : DeskState) × IsReadNow desk seat.new × ((side : ClientSide) → MatchResult result
+            (λ rest. Leads (M.fits recorder.old) (M.fits recorder.new) (λ before after. ReadsAt desk
+            (with_read side seat.old before) piece.now self.old.outbox (with_read side seat.new after) rest.now self.new.outbox))
+            (λ _. Leads (M.fits recorder.old) (M.fits recorder.new) (λ before after. EndsReading
+            (with_read side seat.old before) piece.now self.old.outbox (with_read side seat.new after) Memory))) }
     {
-        let mut rest = piece;
-        while let Some(check) = check_in_front(rest) {
-            match self.answer_front(rt, seat, recorder, &check) {
-                Ok(true) => rest = &rest[check.size..],
-                Ok(false) => return Ok(rest),
-                Err(ended) => return Err(ended),
-            }
-        }
-        Ok(rest)
-    }
-
-    // Answers a check where it stands, if the policies judge it: whether they do.
-    fn answer_front<R: Wait, J: Naming, M: Records>(
-        &mut self,
-        rt: &R,
-        seat: &mut Seat<J>,
-        recorder: &mut M,
-        check: &LentCheck<'_>,
-    ) -> Result<bool, Ended>
-        ensures feeder { self.new.feeder ≡ self.old.feeder }
-        ensures talk { (side : ClientSide) (ahead behind : List ℕ)
-            → first_of AtClient ahead ≡ Whole (framed_of (check_read check.now)) behind → MatchResult result
-            (λ judged. Leads (M.fits recorder.old) (M.fits recorder.new) (λ before after.
-            Reads (with_read side seat.old before) ahead self.old.outbox
-            (with_read side seat.new after) (if judged then behind else ahead) self.new.outbox))
-            (λ ended. Leads (M.fits recorder.old) (M.fits recorder.new) (λ before after.
-            EndsReading (with_read side seat.old before) ahead self.old.outbox (with_read side seat.new after) ended)) }
-    {
-        let KeptRuling { ruling, kept } = self.outbox.judge::<R, J, M::Kept>(rt, seat, check);
-        match ruling {
-            Ruling::Ruled { commit, allowed } => {
-                let decision = Decision {
-                    commit,
-                    agent: None,
-                    allowed,
-                };
-                match recorder.note(&check.question, decision, &kept) {
-                    Ok(()) => Ok(true),
-                    Err(_) => Err(Ended::Memory),
-                }
-            }
-            Ruling::Left => Ok(false),
-            Ruling::Memory => Err(Ended::Memory),
-        }
+        seat.hold_newest(
+            rt,
+            &mut self.outbox,
+            recorder,
+            // proof: the clause that is inferred for it gets no proof where a value of a type parameter is lent.
+            move |desk: &DeskCopy, scratch: &mut Scratch, outbox: &mut Outbox, recorder: &mut M|
+                ensures { (side : ClientSide) (seat : SeatState) → IsReadNow desk.now seat → MatchResult result
+                    (λ rest. Leads (M.fits recorder.old) (M.fits recorder.new) (λ before after. ReadsAt desk.now
+                    (with_read side seat before) piece.entry.now outbox.old (with_read side seat after) rest.now outbox.new))
+                    (λ _. Leads (M.fits recorder.old) (M.fits recorder.new) (λ before after. EndsReading
+                    (with_read side seat before) piece.entry.now outbox.old (with_read side seat after) Memory)) }
+            { answer_at_one_state(desk, scratch, outbox, recorder, piece) },
+        )
     }
 }

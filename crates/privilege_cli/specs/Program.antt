@@ -41,8 +41,7 @@ seen_of source_tells sink_tells disk_tells dial_tells source sink disk net = see
     (source_seen source_tells.left source_tells.faults source) (sink_seen sink_tells.taken sink_tells.faults sink)
     (disk_seen disk_tells.state disk_tells.moment disk_tells.left_since disk_tells.faults disk) (record { faults = dial_tells.faults net })
 
--- How often calls of the disk failed by the end of a run. A service goes on behind one that failed: what it counts is told by
--- `RunsServe`.
+-- How often calls of the disk failed by the end of a run. Of a service `RunsServe` tells it.
 abbrev pub CountsDisk : Option Command → Ending → ℕ → ℕ → Type 0
 CountsDisk (Some (Serve workers)) ending before after = Unit {0}
 CountsDisk (Some (Watch workers)) ending before after = Unit {0}
@@ -81,7 +80,7 @@ module _ {N L H : Type 0} (dial : DialTells N L H) (link : LinkTells L H) (net n
       → Gives status before after (decided_text (decision subject object asked (effective rules subject object)))
   Completes (Some (Sample count)) status before after =
       (found : Outcome) → outcome count ≡ Some found → Gives status before after (sample_text count found)
-  -- a service gives no answers there; where its net did not fail either, it goes on until it is stopped
+  -- a service gives no answers there; where its net did not fail either, it ends with 0, or for want of memory
   Completes (Some (Serve workers)) status before after =
       (start : DeskState) → StandsFor before.disk start → Unraised before.net.faults after.net.faults → Gives status before after []
   Completes (Some (Watch workers)) status before after =

@@ -67,8 +67,8 @@ module _ {S L E : Type 0} (seat_of : S → SeatState) (visits : S → Visit L �
     (events : List Event) where
   -- The connections that a worker of this post served, one after the other, over links that its door gave it: of each `visits`
   -- says what it was answered, at which states of those that its seat had seen by then, and where it entered in what its seat then
-  -- knew of the roll's log; or `VisitsAgents` what it was asked. What the seat has seen in all begins the one list of states that the
-  -- service published, and what it knows begins the one log of the roll.
+  -- knew of the roll's log; or `VisitsAgents` what it was asked. What the seat has seen in all begins the list of states that all
+  -- workers share, and what it knows of the roll's log begins the log that all share.
   abbrev pub WorksFor : Option S → Option S → WorkerEnd → StopsTold → Option (List L) → E → Type 0
   WorksFor (Some start) (Some now) end told given door = GoesOn (seat_of now).seen published
       × IsPrefix (seat_of now).events events

@@ -18,9 +18,9 @@ use Rattle.serve_runs.specs.Folder.{KeepsService, AreMadeBy}
 use Rattle.serve_runs.specs.Serving.{EndsUnopened, ClosesOpened, ServesAll}
 
 -- The folder was not mounted; or it was, and the doors were not opened; or there was a service, over the state that was mounted, by
--- a worker of clients for each of these starts, which has left this at its end. Of the two last it is told what a stop at any moment of
--- the run may have left in the folder, and of a service that each state which it published is what its commands made of the one that was
--- mounted.
+-- a worker of clients for each of these starts, which has left this at its end. Of the two last it is told, where the disk told its
+-- state, what a stop at any moment of the run may have left in the folder; and of a service that each state which it published is what
+-- its commands made of the one that was mounted.
 pub data RunsServe {S L E : Type 0} (seat_of : S → SeatState) (visits : S → Visit L → S → Type 0)
     (traffic : L → Option Traffic) (marks : L → LinkMarks) (faults : L → ℕ)
     (given_back : E → Option (List L)) (door_faults : E → ℕ) (kind : E → Option DoorKind) (starts : List S) (left : Option (List S))

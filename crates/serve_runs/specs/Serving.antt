@@ -75,11 +75,11 @@ ClosesOpened {E} kind closed closed_now = (closed_now ≡ closed)
 -- A service served administrators, one connection after the other, each from the state that the one before it left. Beside them
 -- workers of clients, which began with these, and nine of agents, served at doors of their own, and all have ended. What each of
 -- clients was answered by is a front of `last.published`, the one list of states that administrators made. What happened in the roll,
--- `events`, is one log too, in which nobody who entered behind a disconnect entered below its commit: each client entered in it, as a
--- front of it says that its seat knew; and of each command that was answered as done a disconnect up to its commit stands in it. A
--- worker that was unstarted served nobody: so it is with that of administrators where not all workers had threads. It closed all its
--- doors: first
--- that for administrators, and then those of the workers in their order. Each has its links back.
+-- `events`, is one log too, in which nobody who entered behind a disconnect entered below its commit. Each client entered in it: what
+-- its seat knew then is a front of the log, and ends with its entry. Of each command that was answered as done a disconnect up to its
+-- commit, or a later one, stands in it. A worker that was unstarted served nobody: so it is with that of administrators where not all
+-- workers had threads. The service closed all its doors: first that for administrators, and then those of the workers in their order.
+-- Each has its links back.
 pub record ServesAll {S L E : Type 0} (seat_of : S → SeatState) (visits : S → Visit L → S → Type 0)
     (traffic : L → Option Traffic) (marks : L → LinkMarks) (faults : L → ℕ)
     (given_back : E → Option (List L)) (door_faults : E → ℕ) (kind : E → Option DoorKind) (starts : List S)

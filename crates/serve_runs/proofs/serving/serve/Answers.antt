@@ -1,12 +1,17 @@
 use denote.Param.Send.{sendable}
 use Rattle.std.proofs.Common.{rules}
+use Rattle.std.proofs.Crossing.{crosses}
 use Rattle.serve_runs.specs.parts.Crews.{HasWorked}
 use Rattle.serve_runs.proofs.Crewing.{zip_each, went}
-use Rattle.serve_runs.proofs.Sent.{worker_row_send}
+use Rattle.serve_runs.proofs.Sent.{worker_row_send, roll_lock_sync, questions_sync, muster_sync, alarm_sync}
 use Rattle.serve_runs.proofs.serving.serve.Goals as goal
 
 pub beside-end-requires-send-K : goal.beside-end-requires-send-K
 beside-end-requires-send-K g c κs within = search (sendable, worker_row_send) depth 20
+
+pub beside-end-requires-sync-F : goal.beside-end-requires-sync-F
+beside-end-requires-sync-F g c κs within =
+    search (sendable, crosses, roll_lock_sync, questions_sync, muster_sync, alarm_sync) depth 30
 
 pub returns-clause-workers : goal.returns-clause-workers
 returns-clause-workers g c =
