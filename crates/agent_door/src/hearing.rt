@@ -20,12 +20,12 @@ use wire_messages::{Feeder, Framed, Heard};
 /// An answer that came over an agent's link of this type. It is made where its frame is heard, once, and nowhere else;
 /// to hand it to a hall uses it up.
 #[derive(Drop)]
-pub struct HeardAnswer<L: Link> {
+pub struct HeardAnswer<L> {
     given: Answer,
     of: PhantomData<L>,
 }
 
-impl<L: Link> Model for HeardAnswer<L> {
+impl<L> Model for HeardAnswer<L> {
     ghost use Rattle.agent_door.specs.declared.messages.Answer.{Answer};
 
     ghost Value = { Answer };
@@ -33,7 +33,7 @@ impl<L: Link> Model for HeardAnswer<L> {
     ghost view = { λ heard. heard.given };
 }
 
-impl<L: Link> HeardAnswer<L> {
+impl<L> HeardAnswer<L> {
     /// What was answered.
     pub(crate) fn given(&self) -> Answer
         ensures { result ≡ self.now }
