@@ -38,9 +38,12 @@ pub pieces-preserved-in-More : goal.pieces-preserved-in-More
 pieces-preserved-in-More g c = (tt, tt, (c.pieces.invariant.2.0, goes-on c.pieces.invariant.2.1 c.in-More.ensures))
 
 pub pieces-preserved : goal.pieces-preserved
-pieces-preserved g c =
-    (tt, tt, follows-on c.pieces.invariant.2.1 c.in-Whole.ensures c.follow-followed.ensures c.in_default-followed.field-0
-    c.in_default-followed.is)
+pieces-preserved g c = (
+  tt,
+  tt,
+  follows-on c.pieces.invariant.2.1 c.in-Whole.ensures c.follow-followed.ensures c.in_default-followed.field-0
+      c.in_default-followed.is,
+)
 
 pub returns-in-Err-followed : goal.returns-in-Err-followed
 returns-in-Err-followed g c =
