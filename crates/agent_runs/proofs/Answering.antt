@@ -5,6 +5,9 @@ use Rattle.std.specs.Prelude.{◌==◌}
 use Rattle.cynara_keys.specs.declared.results.Kind.{Kind}
 use Rattle.cynara_keys.specs.Key.{Question}
 use Rattle.cynara_keys.specs.PolicyResult.{Ruling}
+use Rattle.desk_ports.specs.Faults.{next_count}
+use Rattle.link_ports.specs.Told.{ChangesTold, KeepsTold}
+use Rattle.link_ports.specs.Traffic.{with_sent}
 use Rattle.wire_reading.specs.Frame.{spelling, with_sequence}
 use Rattle.wire_fields.specs.declared.messages.Message.{Message}
 use Rattle.wire_fields.specs.declared.messages.Message.TheVariants as m
@@ -22,7 +25,7 @@ use Rattle.agent_runs.specs.LinkSeen.{LinkSeen}
 use Rattle.agent_runs.specs.AgentTalk.{line_for}
 use Rattle.agent_runs.specs.parts.Hearing.{IsPut}
 use Rattle.agent_runs.specs.parts.Turns.{SendsFrame, Sends, Answers}
-use Rattle.agent_runs.proofs.Carrying.{carries-nothing}
+use Rattle.agent_runs.proofs.Carrying.{carries-nothing, carries-sent, carries-kept}
 
 -- ---- a frame
 
@@ -53,6 +56,16 @@ module _ (sequence : ℕ) (message : Message) (s : AgentStage) (answer : Step) (
 pub unsent : (answer : Step) (bytes : List ℕ) (link : LinkSeen) → (answer ≡ step.Send → ⊥) → Sends answer bytes (Err Memory) link link
 unsent step.Send bytes link none = absurd (none refl)
 unsent answer bytes link none = (refl, refl)
+
+-- it is sent, and the link took all of it
+pub went_out : (bytes : List ℕ) (link after : LinkSeen) → ChangesTold link.traffic (with_sent bytes) after.traffic
+    → after.marks ≡ link.marks → after.faults ≡ link.faults → SendsFrame bytes (Ok tt) link after
+went_out bytes link after sent marks faults = (carries-sent bytes link after sent marks, faults)
+
+-- it is sent, and the link failed
+pub kept_back : (bytes : List ℕ) (link after : LinkSeen) → KeepsTold link.traffic after.traffic → after.marks ≡ link.marks
+    → after.faults ≡ next_count link.faults → SendsFrame bytes (Err Net) link after
+kept_back bytes link after kept marks faults = (carries-kept link after kept marks, faults)
 
 -- ---- a message
 

@@ -243,29 +243,30 @@ module _ {kind : Kind} {allowed : Bool} {messages : List Framed} {machine : Agen
 
   -- ---- nothing more is written
 
-  module _ {after : LinkSeen} (sink_after : SinkSeen) (still : IsUnwritten sink sink_after) where
+  module _ (sink_after : SinkSeen) (still : IsUnwritten sink sink_after) where
     yet : IsWhole (lines messages) sink_start sink_after
     yet = whole-still (lines messages) sink_start sink sink_after t.whole still
 
-    -- the input ended, within a message or between two
-    ended : (b : Bool) → IsBegun b t.there → Carries [] [] true link after × (after.faults ≡ link.faults)
-        → Served kind allowed (ending_behind b) start after sink_start sink_after
-    ended true some (carried, faults) =
-        ends_here messages Reply t.received t.there true t.heard (carried-still true carried) (faults ∙ t.faults) yet.0 (yet.1, refl)
-        (refl, t.goes_on, IsBadReply.cut some t.unfinished refl)
-    ended false none (carried, faults) =
-        ends_here messages Done t.received t.there true t.heard (carried-still true carried) (faults ∙ t.faults) yet.0 (yet.1, refl)
-        (refl, none, inl (t.goes_on, refl))
+    module _ {after : LinkSeen} where
+      -- the input ended, within a message or between two
+      ended : (b : Bool) → IsBegun b t.there → Carries [] [] true link after × (after.faults ≡ link.faults)
+          → Served kind allowed (ending_behind b) start after sink_start sink_after
+      ended true some (carried, faults) =
+          ends_here messages Reply t.received t.there true t.heard (carried-still true carried) (faults ∙ t.faults) yet.0 (yet.1, refl)
+          (refl, t.goes_on, IsBadReply.cut some t.unfinished refl)
+      ended false none (carried, faults) =
+          ends_here messages Done t.received t.there true t.heard (carried-still true carried) (faults ∙ t.faults) yet.0 (yet.1, refl)
+          (refl, none, inl (t.goes_on, refl))
 
-    -- nothing follows from these bytes
-    over : (found : Fault) (bytes : List ℕ) → IsOver found messages (t.there ++ bytes) → Carries [] bytes false link after
-        → after.faults ≡ link.faults → Served kind allowed (ending_of found) start after sink_start sink_after
-    over (fault.Memory error) bytes is carried faults =
-        ends_here messages Memory t.received (t.there ++ bytes) false t.heard (carried-on bytes false carried) (faults ∙ t.faults)
-        yet.0 (inl (yet.1, refl)) (t.goes_on, tt, refl)
-    over found bytes is carried faults =
-        ends_here messages Reply t.received (t.there ++ bytes) false t.heard (carried-on bytes false carried) (faults ∙ t.faults)
-        yet.0 (yet.1, refl) (refl, t.goes_on, is)
+      -- nothing follows from these bytes
+      over : (found : Fault) (bytes : List ℕ) → IsOver found messages (t.there ++ bytes) → Carries [] bytes false link after
+          → after.faults ≡ link.faults → Served kind allowed (ending_of found) start after sink_start sink_after
+      over (fault.Memory error) bytes is carried faults =
+          ends_here messages Memory t.received (t.there ++ bytes) false t.heard (carried-on bytes false carried) (faults ∙ t.faults)
+          yet.0 (inl (yet.1, refl)) (t.goes_on, tt, refl)
+      over found bytes is carried faults =
+          ends_here messages Reply t.received (t.there ++ bytes) false t.heard (carried-on bytes false carried) (faults ∙ t.faults)
+          yet.0 (yet.1, refl) (refl, t.goes_on, is)
 
   pub served-ended : {after : LinkSeen} {sink_after : SinkSeen} {ending : Ending} → Carries [] [] true link after × (after.faults ≡ link.faults)
       → IsUnwritten sink sink_after → ending ≡ ending_behind begun → Served kind allowed ending start after sink_start sink_after

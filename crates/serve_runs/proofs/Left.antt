@@ -6,6 +6,7 @@ use Rattle.link_ports.specs.Traffic.{Traffic}
 use Rattle.link_ports.specs.LinkMarks.{LinkMarks}
 use Rattle.link_ports.specs.declared.door_kinds.DoorKind.{DoorKind}
 use Rattle.desk_state.specs.DeskState.{DeskState}
+use Rattle.live_roll.specs.declared.events.Event.{Event}
 use Rattle.live_desk.specs.Seat.{SeatState}
 use Rattle.server_hall.specs.StopNews.{StopsTold}
 use Rattle.desk_server.specs.Visit.{Visit, InTurn}
@@ -23,17 +24,17 @@ module _ {S L E : Type 0} (seat_of : S → SeatState) (visits : S → Visit L �
   abbrev pub CameTo : S → S → Type 0
   CameTo start now = (connections : List (Visit L)) × InTurn visits start connections now
 
-  module _ (published : List DeskState) where
+  module _ (published : List DeskState) (events : List Event) where
     abbrev For : Option S → Option S → WorkerEnd → StopsTold → Option (List L) → E → Type 0
-    For = WorksFor seat_of visits traffic marks faults given_back door_faults kind published
+    For = WorksFor seat_of visits traffic marks faults given_back door_faults kind published events
 
     abbrev Crew : List (Option S) → List (EndedWorker S E) → Type 0
-    Crew = AllZip (Serves seat_of visits traffic marks faults given_back door_faults kind published)
+    Crew = AllZip (Serves seat_of visits traffic marks faults given_back door_faults kind published events)
 
     one_left : (start : S) (left : Option S) (end : WorkerEnd) (told : StopsTold) (given : Option (List L)) (door : E)
         (starts states : List S) → For (Some start) left end told given door → AllZip CameTo starts states
         → AllZip CameTo (start ∷ starts) (option_to_list left ++ states)
-    one_left start (Some now) end told given door starts states (saw, works) all = ((works.visits, works.in_turn), all)
+    one_left start (Some now) end told given door starts states (saw, known, works) all = ((works.visits, works.in_turn), all)
     one_left start None end told given door starts states works all = absurd works
 
     no_left : (left : Option S) (end : WorkerEnd) (told : StopsTold) (given : Option (List L)) (door : E) (states : List S)
@@ -65,4 +66,4 @@ module _ {S L E : Type 0} (seat_of : S → SeatState) (visits : S → Visit L �
       let wrong : ⊥ = cc in absurd wrong
   all_left starts left states ending before after net net_now closed closed_now is (served start serves left_is keeps) =
       let same : left_by serves.crew ≡ states = cc in
-      subst (λ (list : List S). AllZip CameTo starts list) same (each_left serves.last.published starts serves.crew serves.serves)
+      subst (λ (list : List S). AllZip CameTo starts list) same (each_left serves.last.published serves.events starts serves.crew serves.serves)

@@ -20,7 +20,7 @@ pieces-init g c = (
     [],
     begins c.args.kind c.args.allowed (link_seen g.L.Link c.args.link.now) (link_seen g.L.Link c.send.new.link)
         (sink_seen g.K.Sink.taken g.K.Sink.faults c.args.sink.now) c.new-machine.result c.dialled-step.new.self c.dialled-step.result
-        c.new-machine.ensures c.dialled-step.ensures tt c.in-Ok.ensures,
+        c.new-machine.ensures c.dialled-step.ensures tt c.in_default.ensures,
   ),
 )
 
@@ -39,11 +39,12 @@ pieces-preserved-in-More g c = (tt, tt, (c.pieces.invariant.2.0, goes-on c.piece
 
 pub pieces-preserved : goal.pieces-preserved
 pieces-preserved g c =
-    (tt, tt, follows-on c.pieces.invariant.2.1 c.in-Whole.ensures c.follow-followed.ensures c.in-Ok.value c.in-Ok.is)
+    (tt, tt, follows-on c.pieces.invariant.2.1 c.in-Whole.ensures c.follow-followed.ensures c.in_default-followed.field-0
+    c.in_default-followed.is)
 
 pub returns-in-Err-followed : goal.returns-in-Err-followed
 returns-in-Err-followed g c =
-    follows-out c.pieces.invariant.2.1 c.in-Whole.ensures c.follow-followed.ensures c.in-Err.ending c.in-Err.is
+    follows-out c.pieces.invariant.2.1 c.in-Whole.ensures c.follow-followed.ensures c.in-Err-followed.ending c.in-Err-followed.is
 
 pub returns-in-Over : goal.returns-in-Over
 returns-in-Over g c =

@@ -15,7 +15,8 @@ returns-in-AgentQuestion g c = λ sequence.
     let after = link_seen g.L.Link c.send.new.link in
     subst (λ (message : Message). IsPut message sequence old.stage → Answers c.args.allowed sequence message c.send.result new before after)
     (sym c.in-AgentQuestion.is)
-    (λ put. answered c.args.allowed sequence c.in-AgentQuestion.number _ _ c.answer-step.result old new before after c.send.result put
+    (λ put. answered c.args.allowed sequence c.in-AgentQuestion.number c.in-AgentQuestion.question
+    c.in-AgentQuestion.result c.answer-step.result old new before after c.send.result put
     c.answer-step.ensures c.send.ensures)
 
 pub returns-in-KindTaken : goal.returns-in-KindTaken

@@ -19,8 +19,8 @@ returns-in-AgentQuestion g c =
 
 pub returns-in-KindTaken : goal.returns-in-KindTaken
 returns-in-KindTaken g c =
-    subst (λ (text : List ℕ). WritesLine text c.write_line.result (sink_seen g.K.Sink.taken g.K.Sink.faults c.args.sink.now)
-    (sink_seen g.K.Sink.taken g.K.Sink.faults c.write_line.new.sink)) (sym (ap line_for c.in-KindTaken.is)) c.write_line.ensures
+    subst (λ (text : List ℕ). WritesLine text c.write_line-in-KindTaken.result (sink_seen g.K.Sink.taken g.K.Sink.faults c.args.sink.now)
+    (sink_seen g.K.Sink.taken g.K.Sink.faults c.write_line-in-KindTaken.new.sink)) (sym (ap line_for c.in-KindTaken.is)) c.write_line-in-KindTaken.ensures
 
 pub returns-in_default : goal.returns-in_default
 returns-in_default g c =

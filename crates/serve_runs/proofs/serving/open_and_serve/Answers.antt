@@ -49,7 +49,8 @@ returns-clause-served g c =
     subst (λ list. AllByRecursion (SawOnly c.serve-end.new.publisher c.serve-end.result.1) list) (c.deref.ensures.value ∙ written) c.compare.ensures.crew in
     let state = g.X.ClientDuty.state in
     let visits = g.X.ClientDuty.visits g.N.Door.Link.Link.traffic g.N.Door.Link.Link.marks g.N.Door.Link.Link.faults in
-    let ended = all_ended state g.X.ClientDuty.seat_of g.met.X.ClientDuty.seat_is visits
+    let ended = all_ended state g.X.ClientDuty.seat_of
+    (g.met.X.ClientDuty g.world.𝓛 g.world.𝓜 g.world.𝓡 ((λ s x. x), (λ x. x), (λ x. x), λ x. x)).seat_is visits
     g.N.Door.Link.Link.traffic g.N.Door.Link.Link.marks g.N.Door.Link.Link.faults g.N.Door.Door.given_back
     g.N.Door.Door.faults g.N.Door.Door.kind c.serve-end.new.publisher c.serve-end.result.1 c.args.stations.items c.deref_mut.result.now now
     (rw c.deref_mut.ensures.value c.in_default.ensures.opened) c.serve-end.ensures.workers saw in
