@@ -28,12 +28,14 @@ ANSWERS = """use denote.RattleType.{RattleType}
 use denote.Param.Send.{IsSend, IsSync, sendable}
 use mir.Syntax.{given}
 use Rattle.state_list.specs.declared.rules.Naming.{Ghosts}
+use Rattle.state_list.specs.contracts.rules.Events as Events
 use Rattle.live_desk.specs.contracts.seats.Seat as Seat
 use Rattle.live_desk.proofs.Sent as live
 use Rattle.live_speed.proofs.timed.Goals as goal
 
-seat : (J : RattleType) (naming : Ghosts J.Denot) → IsSend J → IsSync J → IsSend (Seat.the_row J naming)
-seat J naming send sync = live.seat_row_send J naming (given 0) send sync
+seat : (J : RattleType) (naming : Ghosts J.Denot) (events : Ghosts (Events.the_row J).Denot)
+    → IsSend J → IsSync J → IsSend (Seat.the_row J naming events)
+seat J naming events send sync = live.seat_row_send J naming (given 0) events send sync
 
 pub by_one-done-requires-send-C : goal.by_one-done-requires-send-C
 by_one-done-requires-send-C g c κs within = search (sendable, seat) depth 20
@@ -41,12 +43,12 @@ by_one-done-requires-send-C g c κs within = search (sendable, seat) depth 20
 pub by_four-done-requires-send-C : goal.by_four-done-requires-send-C
 by_four-done-requires-send-C g c κs within = search (sendable, seat) depth 20
 """
-# Which list the published states are.
+# Which list the published states are, and which the roll's log.
 PICKS = """use Rattle.state_list.specs.Opening.{book_of}
 use Rattle.live_speed.proofs.main.Given as goal
 
 abbrev pub ghosts-over_list : goal.ghosts-over_list
-ghosts-over_list g a = record { book = book_of a.opened }
+ghosts-over_list g a = record { book = book_of a.opened; events = book_of a.happened }
 """
 RUNS = 5
 ROUNDS = 50

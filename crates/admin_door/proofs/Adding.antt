@@ -16,8 +16,8 @@ use Rattle.admin_door.specs.Settling.{IsFound, Settles, IsHungFor, Unsettles}
 use Rattle.admin_door.specs.Answering.{Commits, LacksMemory, Obeys, IsUnanswered, AnswersQuestion, AnswersBy, RefusesBy}
 use Rattle.admin_door.specs.Adding.{Adds, AddsAtMost, AddsSome, IsAcknowledged}
 use Rattle.admin_door.specs.Serving.{AdminTalk, Exchange, AreAnswered, EndsAnswering, Serves}
-use Rattle.admin_door.specs.declared.settling.Unsettled.{Unsettled}
-use Rattle.admin_door.specs.declared.settling.Unsettled.TheVariants as why
+use Rattle.desk_keeper.specs.declared.refusals.KeeperRefusal.{KeeperRefusal}
+use Rattle.desk_keeper.specs.declared.refusals.KeeperRefusal.TheVariants as why
 use Rattle.admin_door.proofs.Showing.{last-behind}
 
 -- ---- one step
@@ -50,7 +50,7 @@ shows old desk = record {
 none : (old now : AdminSide) → Adds old now [] → AddsAtMost 0 old now
 none old now adds = ([], omega arith, adds)
 
-still : (old now : AdminSide) → now ≡ old → AddsAtMost 0 old now
+pub still : (old now : AdminSide) → now ≡ old → AddsAtMost 0 old now
 still old now is =
     subst (λ (side : AdminSide). AddsAtMost 0 old side) (sym is)
     (none old old (changes old old.desk old.decided old.faults old.tally.stop_calls))
@@ -97,7 +97,7 @@ shown-one : (newer : Bool) (side : AdminSide) → AddsAtMost 1 side (cond newer 
 shown-one true side = (side.desk ∷ [], omega arith, shows side side.desk)
 shown-one false side = at-most 0 1 side side (omega arith) (still side side refl)
 
-settles-one : (told : Option DiskState) (old now : AdminSide) → Settles told old now → AddsAtMost 1 old now
+pub settles-one : (told : Option DiskState) (old now : AdminSide) → Settles told old now → AddsAtMost 1 old now
 settles-one told old now settles =
     at-most-then 0 1 old settles.found now (found-none told old settles.found settles.is_found)
     (subst (λ (side : AdminSide). AddsAtMost 1 settles.found side) (sym settles.shown)
@@ -123,12 +123,12 @@ fails-none old now is =
     subst (λ (side : AdminSide). AddsAtMost 0 old side) (sym is)
     (none old (with_fault old) (changes old old.desk false (with_fault old).faults old.tally.stop_calls))
 
-unsettles-none : (told : Option DiskState) (old now : AdminSide) (reason : Unsettled) → Unsettles told old now reason
+unsettles-none : (told : Option DiskState) (old now : AdminSide) (reason : KeeperRefusal) → Unsettles told old now reason
     → AddsAtMost 0 old now
 unsettles-none told old now why.StoreFault (undecided, is) = fails-none old now is
-unsettles-none told old now (why.StoreDamaged file line) (undecided, is, damaged) = still old now is
-unsettles-none told old now why.Memory (inl is) = still old now is
-unsettles-none told old now why.Memory (inr found) = found-none told old now found
+unsettles-none told old now (why.Damaged file line) (undecided, is, damaged) = still old now is
+unsettles-none told old now (why.Memory error) (inl is) = still old now is
+unsettles-none told old now (why.Memory error) (inr found) = found-none told old now found
 
 -- ---- a command
 
@@ -218,9 +218,9 @@ obeys-acknowledged told command old now replies commit erased (inl (between, set
     let same = sym failed.answered ∙ is in cc
 obeys-acknowledged told command old now replies commit erased (inr (why.StoreFault, unsettles, answers)) is =
     let same = sym answers ∙ is in cc
-obeys-acknowledged told command old now replies commit erased (inr (why.StoreDamaged file line, unsettles, answers)) is =
+obeys-acknowledged told command old now replies commit erased (inr (why.Damaged file line, unsettles, answers)) is =
     let same = sym answers ∙ is in cc
-obeys-acknowledged told command old now replies commit erased (inr (why.Memory, unsettles, answers)) is = absurd answers
+obeys-acknowledged told command old now replies commit erased (inr (why.Memory error, unsettles, answers)) is = absurd answers
 
 pub answers-acknowledged : (told : Option DiskState) (found : Option Command) (message : Message) (old now : AdminSide)
     (replies : List Message) (command : Command) (commit erased : ℕ) → AnswersBy told found message old now replies
@@ -231,13 +231,13 @@ answers-acknowledged told found message old now replies command commit erased an
 
 -- ---- a connection
 
-some-of : (most : ℕ) (old now : AdminSide) → AddsAtMost most old now → AddsSome old now
+pub some-of : (most : ℕ) (old now : AdminSide) → AddsAtMost most old now → AddsSome old now
 some-of most old now (more, count, adds) = (more, adds)
 
-some-then : (a b c : AdminSide) → AddsSome a b → AddsSome b c → AddsSome a c
+pub some-then : (a b c : AdminSide) → AddsSome a b → AddsSome b c → AddsSome a c
 some-then a b c (xs, first) (ys, then) = (xs ++ ys, adds-then a b c xs ys first then)
 
-answered-some : (start : AdminSide) (exchanges : List Exchange) (now : AdminSide) → AreAnswered start exchanges now → AddsSome start now
+pub answered-some : (start : AdminSide) (exchanges : List Exchange) (now : AdminSide) → AreAnswered start exchanges now → AddsSome start now
 answered-some start [] now is = some-of 0 start now (still start now is)
 answered-some start (exchange ∷ more) now (between, one, others) =
     some-then start between now
@@ -245,7 +245,7 @@ answered-some start (exchange ∷ more) now (between, one, others) =
     (answers-two exchange.told (command_of exchange.framed.message) exchange.framed.message start between exchange.replies one))
     (answered-some between more now others)
 
-ending-some : (ended : Ended) (between now : AdminSide) (last : List Exchange) (bytes : List ℕ)
+pub ending-some : (ended : Ended) (between now : AdminSide) (last : List Exchange) (bytes : List ℕ)
     → EndsAnswering ended between now last bytes → AddsSome between now
 ending-some ended between now last bytes (inl (no_frame, no_byte, is)) = some-of 0 between now (still between now is)
 ending-some ended between now last bytes (inr (inl (exchange, frame, byte, reply, refuses))) =

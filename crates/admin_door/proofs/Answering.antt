@@ -11,11 +11,11 @@ use Rattle.wire_messages.specs.Commands.{command_of, IsByRule}
 use Rattle.wire_fields.specs.declared.messages.Message.{Message}
 use Rattle.wire_fields.specs.declared.messages.Message.TheVariants as message
 use Rattle.admin_door.specs.Side.{AdminSide, with_kept, with_shown}
-use Rattle.admin_door.specs.Settling.{IsFound, Settles, Unsettles, with_last_shown}
+use Rattle.admin_door.specs.Settling.{IsFound, Settles, Unsettles, LacksMemoryAlone, with_last_shown}
 use Rattle.admin_door.specs.Answering.{Commits, LacksMemory, Obeys, Answers, AnswersBy, RefusesBy}
 use Rattle.admin_door.specs.parts.Showing.{Shows, IsUnshown}
-use Rattle.admin_door.specs.declared.settling.Unsettled.{Unsettled}
-use Rattle.admin_door.specs.declared.settling.Unsettled.TheVariants.{Memory}
+use Rattle.desk_keeper.specs.declared.refusals.KeeperRefusal.{KeeperRefusal}
+use Rattle.desk_keeper.specs.declared.refusals.KeeperRefusal.TheVariants.{StoreFault, Damaged, Memory}
 
 -- what follows from either outcome
 pub either-way : {V E : Type 0} (result : Result V E) (P Q : V → Type 0) (R S : E → Type 0) → ((value : V) → P value → Q value)
@@ -29,11 +29,12 @@ pub settles-shown : (told : Option DiskState) (old found now : AdminSide) → Is
     → now ≡ with_last_shown found → Settles told old now
 settles-shown told old found now is_found shown = record { found = found; is_found = is_found; shown = shown }
 
-pub unsettles-unshown : (told : Option DiskState) (old found now : AdminSide) (reason : Unsettled) → IsFound told old found
-    → (reason ≡ Memory) × (now ≡ found) → Unsettles told old now reason
-unsettles-unshown told old found now reason is_found (is, same) =
-    subst (λ (reason : Unsettled). Unsettles told old now reason) (sym is)
-    (inr (subst (λ (side : AdminSide). IsFound told old side) (sym same) is_found))
+pub unsettles-unshown : (told : Option DiskState) (old found now : AdminSide) (reason : KeeperRefusal) → IsFound told old found
+    → LacksMemoryAlone reason × (now ≡ found) → Unsettles told old now reason
+unsettles-unshown told old found now StoreFault is_found (is, same) = absurd is
+unsettles-unshown told old found now (Damaged file line) is_found (is, same) = absurd is
+unsettles-unshown told old found now (Memory error) is_found (is, same) =
+    inr (subst (λ (side : AdminSide). IsFound told old side) (sym same) is_found)
 
 -- ---- a commit
 

@@ -19,8 +19,8 @@ use Rattle.admin_door.specs.Answering.{Commits, LacksMemory, IsUnanswered, Obeys
 use Rattle.admin_door.specs.Serving.{Exchange}
 use Rattle.admin_door.specs.Stops.{Allows}
 use Rattle.admin_door.specs.Running.{Makes, IsNotDone, TellsCommit, LeadsTo, ComesFrom}
-use Rattle.admin_door.specs.declared.settling.Unsettled.{Unsettled}
-use Rattle.admin_door.specs.declared.settling.Unsettled.TheVariants as why
+use Rattle.desk_keeper.specs.declared.refusals.KeeperRefusal.{KeeperRefusal}
+use Rattle.desk_keeper.specs.declared.refusals.KeeperRefusal.TheVariants as why
 use Rattle.admin_door.proofs.Adding.{done-of}
 use Rattle.admin_door.proofs.Stopping.{allows-current}
 
@@ -151,13 +151,13 @@ module _ (before : DiskState) (touched : IsTouchedOnly before) (exchange : Excha
           did-rest between now base (desk-of now (with_fault between) failed.leaves)
           (λ _ commit erased asks is. let same = sym failed.answered ∙ is in cc)
 
-      did-unsettled : (now : AdminSide) (reason : Unsettled) → Unsettles told old now reason → AnswersUnsettled reason exchange.replies
+      did-unsettled : (now : AdminSide) (reason : KeeperRefusal) → Unsettles told old now reason → AnswersUnsettled reason exchange.replies
           → Did before exchange old now
       did-unsettled now why.StoreFault (undecided, is) answers =
           did-nothing now (desk-of now (with_fault old) is) (λ _ commit erased asks is. let same = sym answers ∙ is in cc)
-      did-unsettled now (why.StoreDamaged file line) (undecided, is, damaged) answers =
+      did-unsettled now (why.Damaged file line) (undecided, is, damaged) answers =
           did-nothing now (desk-of now old is) (λ _ commit erased asks is. let same = sym answers ∙ is in cc)
-      did-unsettled now why.Memory unsettles answers = absurd answers
+      did-unsettled now (why.Memory error) unsettles answers = absurd answers
 
       did-obeys : (now : AdminSide) → Obeys told command old now exchange.replies → Did before exchange old now
       did-obeys now (inl (between, settles, commits)) = did-commits between now (settles-base between settles) commits
@@ -175,11 +175,11 @@ module _ (before : DiskState) (touched : IsTouchedOnly before) (exchange : Excha
             did-made between now command base asks accepted (λ commit erased is. let same = sym none ∙ is in cc)
             (ap (λ (side : AdminSide). side.decided) is) (desk-of now (with_kept (next between.desk command) between) is)
 
-        did-left : (now : AdminSide) (reason : Unsettled) → Unsettles told old now reason → Did before exchange old now
+        did-left : (now : AdminSide) (reason : KeeperRefusal) → Unsettles told old now reason → Did before exchange old now
         did-left now why.StoreFault (undecided, is) = did-nothing now (desk-of now (with_fault old) is) silent
-        did-left now (why.StoreDamaged file line) (undecided, is, damaged) = did-nothing now (desk-of now old is) silent
-        did-left now why.Memory (inl is) = did-nothing now (desk-of now old is) silent
-        did-left now why.Memory (inr found) = did-rest now now (found-base now found) refl silent
+        did-left now (why.Damaged file line) (undecided, is, damaged) = did-nothing now (desk-of now old is) silent
+        did-left now (why.Memory error) (inl is) = did-nothing now (desk-of now old is) silent
+        did-left now (why.Memory error) (inr found) = did-rest now now (found-base now found) refl silent
 
         did-unanswered : (now : AdminSide) → IsUnanswered told command old now → Did before exchange old now
         did-unanswered now (inl (between, settles, lacks)) = did-lacks between now (settles-base between settles) lacks

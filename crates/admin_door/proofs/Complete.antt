@@ -24,8 +24,8 @@ use Rattle.admin_door.specs.Answering.{AnswersBy, Answers, Obeys, AnswersUnsettl
 use Rattle.admin_door.specs.Serving.{AdminTalk, Exchange, AreAnswered, StopsAt, IsUnsent, EndsAnswering, EndsFor, Serves}
 use Rattle.admin_door.specs.Serving.{frames_of, exchanges_bytes}
 use Rattle.admin_door.specs.Complete.{Stays, Receives, AnswersEach, AnswersFront, IsDecided, FindsDamage}
-use Rattle.admin_door.specs.declared.settling.Unsettled.{Unsettled}
-use Rattle.admin_door.specs.declared.settling.Unsettled.TheVariants as why
+use Rattle.desk_keeper.specs.declared.refusals.KeeperRefusal.{KeeperRefusal}
+use Rattle.desk_keeper.specs.declared.refusals.KeeperRefusal.TheVariants as why
 
 -- a count that rises does not stay
 moves : (before between after : ℕ) → Stays before after → before ≡ between → after ≡ next_count between → ⊥
@@ -196,13 +196,13 @@ settles_count told old between settles =
 
 module _ (told : Option DiskState) (command : Command) (old now : AdminSide) (replies : List Message)
     (quiet : Stays old.faults now.faults) where
-  unsettled_so : (reason : Unsettled) → Unsettles told old now reason → AnswersUnsettled reason replies
+  unsettled_so : (reason : KeeperRefusal) → Unsettles told old now reason → AnswersUnsettled reason replies
       → IsDecided told command old now replies ⊎ FindsDamage told old now replies
   unsettled_so why.StoreFault (undecided, is) answers =
       absurd (moves old.faults old.faults now.faults quiet refl (ap (λ (side : AdminSide). side.faults) is))
-  unsettled_so (why.StoreDamaged file line) unsettles answers =
+  unsettled_so (why.Damaged file line) unsettles answers =
       inr (record { file = file; line = line; unsettled = unsettles; answered = answers })
-  unsettled_so why.Memory unsettles answers = absurd answers
+  unsettled_so (why.Memory error) unsettles answers = absurd answers
 
   obeys_so : Obeys told command old now replies → IsDecided told command old now replies ⊎ FindsDamage told old now replies
   obeys_so (inl (between, settles, inl done)) = inl (record { between = between; settles = settles; done = inl done })

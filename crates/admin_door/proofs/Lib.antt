@@ -4,6 +4,7 @@ pub mod ServiceTelling
 pub mod Showing
 pub mod Answering
 pub mod Adding
+pub mod Hanging
 pub mod Stopping
 pub mod Running
 pub mod Behind

@@ -19,8 +19,8 @@ use Rattle.admin_door.specs.Settling.{IsFound, Settles, Unsettles}
 use Rattle.admin_door.specs.Answering.{Commits, LacksMemory, Obeys, IsUnanswered, AnswersUnsettled, AnswersQuestion, AnswersBy, RefusesBy}
 use Rattle.admin_door.specs.Serving.{AdminTalk, Exchange, AreAnswered, EndsAnswering, Serves}
 use Rattle.admin_door.specs.Running.{IsNotDone, TellsCommit, LeadsTo, ComesFrom, IsToldBehind, TellsEach, IsReached}
-use Rattle.admin_door.specs.declared.settling.Unsettled.{Unsettled}
-use Rattle.admin_door.specs.declared.settling.Unsettled.TheVariants as why
+use Rattle.desk_keeper.specs.declared.refusals.KeeperRefusal.{KeeperRefusal}
+use Rattle.desk_keeper.specs.declared.refusals.KeeperRefusal.TheVariants as why
 use Rattle.admin_door.proofs.Adding.{done-of}
 use Rattle.admin_door.proofs.Behind.{not-command, leads-still, leads-made}
 use Rattle.admin_door.proofs.Running.{leads-then}
@@ -153,14 +153,14 @@ module _ (before : DiskState) (last : DeskState) (first : List DeskState) (all :
             subst (λ (side : AdminSide). Holds before last first all behind side) (sym failed.leaves)
             (still between.desk between.published (λ _ commit erased asks is. let same = sym failed.answered ∙ is in cc) holds)
 
-        unsettled-holds : (now : AdminSide) (reason : Unsettled) → Unsettles exchange.told old now reason
+        unsettled-holds : (now : AdminSide) (reason : KeeperRefusal) → Unsettles exchange.told old now reason
             → AnswersUnsettled reason exchange.replies → Holds before last first all behind now
         unsettled-holds now why.StoreFault (undecided, is) answers =
             subst (λ (side : AdminSide). Holds before last first all behind side) (sym is)
             (still old.desk old.published (λ _ commit erased asks is. let same = sym answers ∙ is in cc) h)
-        unsettled-holds now (why.StoreDamaged file line) (undecided, is, damaged) answers =
+        unsettled-holds now (why.Damaged file line) (undecided, is, damaged) answers =
             rests old now (λ _ commit erased asks is. let same = sym answers ∙ is in cc) h is
-        unsettled-holds now why.Memory unsettles answers = absurd answers
+        unsettled-holds now (why.Memory error) unsettles answers = absurd answers
 
         obeys-holds : (now : AdminSide) → Obeys exchange.told command old now exchange.replies → Holds before last first all behind now
         obeys-holds now (inl (between, settles, commits)) = commits-holds between now (settles-holds between settles) commits
@@ -177,13 +177,13 @@ module _ (before : DiskState) (last : DeskState) (first : List DeskState) (all :
               subst (λ (side : AdminSide). Holds before last first all behind side) (sym is)
               (made between.desk between.published command asks accepted (λ commit erased is. let same = sym none ∙ is in cc) holds)
 
-          left-holds : (now : AdminSide) (reason : Unsettled) → Unsettles exchange.told old now reason
+          left-holds : (now : AdminSide) (reason : KeeperRefusal) → Unsettles exchange.told old now reason
               → Holds before last first all behind now
           left-holds now why.StoreFault (undecided, is) =
               subst (λ (side : AdminSide). Holds before last first all behind side) (sym is) (still old.desk old.published silent h)
-          left-holds now (why.StoreDamaged file line) (undecided, is, damaged) = rests old now silent h is
-          left-holds now why.Memory (inl is) = rests old now silent h is
-          left-holds now why.Memory (inr found) = still now.desk now.published silent (found-holds now found)
+          left-holds now (why.Damaged file line) (undecided, is, damaged) = rests old now silent h is
+          left-holds now (why.Memory error) (inl is) = rests old now silent h is
+          left-holds now (why.Memory error) (inr found) = still now.desk now.published silent (found-holds now found)
 
           unanswered-holds : (now : AdminSide) → IsUnanswered exchange.told command old now → Holds before last first all behind now
           unanswered-holds now (inl (between, settles, lacks)) = lacks-holds between now (settles-holds between settles) lacks

@@ -11,7 +11,7 @@ use Rattle.door_frames.specs.Ending.{EndsSending}
 use Rattle.door_frames.specs.declared.endings.Ended.{Ended}
 use Rattle.door_frames.proofs.Carrying.{carried_more}
 use Rattle.admin_door.specs.Serving.{replies_bytes}
-use Rattle.admin_door.specs.parts.Talk.{IsCutOff}
+use Rattle.admin_door.specs.Due.{IsCutOff}
 
 abbrev reply_bytes : ℕ → Message → List ℕ
 reply_bytes sequence reply = spelling (with_sequence sequence reply)

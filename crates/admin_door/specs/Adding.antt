@@ -2,6 +2,8 @@
 use Rattle.std.specs.Prelude.{◌≡◌, ◌⊎◌, ◌≤◌, ℕ, true, List, [], ◌∷◌, ◌++◌, length, Some}
 use Rattle.desk_state.specs.DeskState.{DeskState}
 use Rattle.desk_state.specs.declared.commands.Command.{Command}
+use Rattle.live_roll.specs.declared.events.Event.{Event}
+use Rattle.live_roll.specs.Events.{HasHung}
 use Rattle.live_desk.specs.History.{IsLast, last_commit}
 use Rattle.wire_messages.specs.Commands.{command_of}
 use Rattle.wire_fields.specs.declared.messages.Message.{Message}
@@ -33,7 +35,8 @@ pub record IsAcknowledged (now : AdminSide) (commit : ℕ) : Type 0 where
   pub last : IsLast now.published now.desk
   pub cleared : now.tally.cleared ≡ commit
 
--- a command that is answered as done is acknowledged
-abbrev pub Acknowledges : Message → AdminSide → List Message → Type 0
-Acknowledges message now replies = (command : Command) (commit erased : ℕ) → command_of message ≡ Some command
-    → replies ≡ Done commit erased ∷ [] → IsAcknowledged now commit
+-- A command that is answered as done is acknowledged: and by then a disconnect up to its commit stands in this front of the
+-- roll's log.
+abbrev pub Acknowledges : Message → AdminSide → List Event → List Message → Type 0
+Acknowledges message now hangs replies = (command : Command) (commit erased : ℕ) → command_of message ≡ Some command
+    → replies ≡ Done commit erased ∷ [] → IsAcknowledged now commit × HasHung hangs commit

@@ -17,8 +17,8 @@ use Rattle.admin_door.specs.State.{AreState}
 use Rattle.admin_door.specs.Service.{IsService}
 use Rattle.admin_door.specs.Reply.{list_replies, check_replies, done_replies, stop_replies}
 use Rattle.admin_door.specs.Settling.{Settles, Unsettles}
-use Rattle.admin_door.specs.declared.settling.Unsettled.{Unsettled}
-use Rattle.admin_door.specs.declared.settling.Unsettled.TheVariants as why
+use Rattle.desk_keeper.specs.declared.refusals.KeeperRefusal.{KeeperRefusal}
+use Rattle.desk_keeper.specs.declared.refusals.KeeperRefusal.TheVariants as why
 
 -- ---- a command, from a state that is settled
 
@@ -57,22 +57,22 @@ LacksMemory command settled now = (now ≡ settled) ⊎ IsUnpublished command se
 -- ---- a command
 
 -- what a command is answered that could not be settled
-abbrev pub AnswersUnsettled : Unsettled → List Message → Type 0
+abbrev pub AnswersUnsettled : KeeperRefusal → List Message → Type 0
 AnswersUnsettled why.StoreFault replies = replies ≡ StoreFault ∷ []
-AnswersUnsettled (why.StoreDamaged file line) replies = replies ≡ StoreDamaged file line ∷ []
-AnswersUnsettled why.Memory replies = ⊥
+AnswersUnsettled (why.Damaged file line) replies = replies ≡ StoreDamaged file line ∷ []
+AnswersUnsettled (why.Memory error) replies = ⊥
 
 -- a command is answered so
 abbrev pub Obeys : Option DiskState → Command → AdminSide → AdminSide → List Message → Type 0
 Obeys told command old now replies =
     ((between : AdminSide) × Settles told old between × Commits command between now replies)
-    ⊎ ((reason : Unsettled) × Unsettles told old now reason × AnswersUnsettled reason replies)
+    ⊎ ((reason : KeeperRefusal) × Unsettles told old now reason × AnswersUnsettled reason replies)
 
 -- a command is not answered, for want of memory: behind the settling, within it, or before it
 abbrev pub IsUnanswered : Option DiskState → Command → AdminSide → AdminSide → Type 0
 IsUnanswered told command old now =
     ((between : AdminSide) × Settles told old between × LacksMemory command between now)
-    ⊎ (((reason : Unsettled) × Unsettles told old now reason) ⊎ (now ≡ old))
+    ⊎ (((reason : KeeperRefusal) × Unsettles told old now reason) ⊎ (now ≡ old))
 
 -- ---- a message
 

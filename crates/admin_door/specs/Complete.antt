@@ -14,7 +14,7 @@ use Rattle.admin_door.specs.Side.{AdminSide}
 use Rattle.admin_door.specs.Settling.{Settles, Unsettles}
 use Rattle.admin_door.specs.Answering.{IsDone, IsRefused}
 use Rattle.admin_door.specs.Serving.{AdminTalk, Exchange, AreAnswered, StopsAt, frames_of, exchanges_bytes}
-use Rattle.admin_door.specs.declared.settling.Unsettled.TheVariants as why
+use Rattle.desk_keeper.specs.declared.refusals.KeeperRefusal.TheVariants as why
 
 -- a count that has not risen, and could have
 abbrev pub Stays : ℕ → ℕ → Type 0
@@ -65,5 +65,5 @@ pub record IsDecided (told : Option DiskState) (command : Command) (old now : Ad
 pub record FindsDamage (told : Option DiskState) (old now : AdminSide) (replies : List Message) : Type 0 where
   pub file : List ℕ
   pub line : ℕ
-  pub unsettled : Unsettles told old now (why.StoreDamaged file line)
+  pub unsettled : Unsettles told old now (why.Damaged file line)
   pub answered : replies ≡ StoreDamaged file line ∷ []

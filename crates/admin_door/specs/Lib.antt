@@ -8,6 +8,7 @@ pub mod Adding
 pub mod Due
 pub mod Stops
 pub mod Serving
+pub mod Hanging
 pub mod Running
 pub mod Complete
 pub mod parts

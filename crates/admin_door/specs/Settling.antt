@@ -9,8 +9,8 @@ use Rattle.server_hall.specs.Tally.{Tally}
 use Rattle.wire_fields.specs.declared.messages.Message.{Message}
 use Rattle.wire_fields.specs.declared.messages.Message.TheVariants.{StoreDamaged as StoreDamagedReply}
 use Rattle.admin_door.specs.Side.{AdminSide, with_shown, with_fault}
-use Rattle.admin_door.specs.declared.settling.Unsettled.{Unsettled}
-use Rattle.admin_door.specs.declared.settling.Unsettled.TheVariants.{StoreFault, StoreDamaged, Memory}
+use Rattle.desk_keeper.specs.declared.refusals.KeeperRefusal.{KeeperRefusal}
+use Rattle.desk_keeper.specs.declared.refusals.KeeperRefusal.TheVariants.{StoreFault, Damaged, Memory}
 
 -- It is known what the folder keeps: the same as before, or what was found in it, which is no older.
 pub record IsFound (told : Option DiskState) (old now : AdminSide) : Type 0 where
@@ -39,12 +39,18 @@ IsHungFor before published tally = (last_commit 0 published ≡ before) ⊎ (tal
 
 -- Why it is not settled: a call of the disk failed; the folder stands for no policy state, or for an older one; or for
 -- want of memory, before or after it was found what the folder keeps.
-abbrev pub Unsettles : Option DiskState → AdminSide → AdminSide → Unsettled → Type 0
+abbrev pub Unsettles : Option DiskState → AdminSide → AdminSide → KeeperRefusal → Type 0
 Unsettles told old now StoreFault = (old.decided ≡ false) × (now ≡ with_fault old)
-Unsettles told old now (StoreDamaged file line) = (old.decided ≡ false) × (now ≡ old)
+Unsettles told old now (Damaged file line) = (old.decided ≡ false) × (now ≡ old)
     × WhereTold told (λ before. (kept before.current ≡ Err (record { file = file; line = line }))
     ⊎ IsOlder old.desk before.current (record { file = file; line = line }))
-Unsettles told old now Memory = (now ≡ old) ⊎ IsFound told old now
+Unsettles told old now (Memory error) = (now ≡ old) ⊎ IsFound told old now
+
+-- memory was wanting, and nothing else
+abbrev pub LacksMemoryAlone : KeeperRefusal → Type 0
+LacksMemoryAlone StoreFault = ⊥
+LacksMemoryAlone (Damaged file line) = ⊥
+LacksMemoryAlone (Memory error) = Unit {0}
 
 -- ---- what is read behind it
 
@@ -55,10 +61,10 @@ ReadsDamaged last told file line =
     ⊎ IsOlder last after.current (record { file = file; line = line }))
 
 -- a damage that was found stands still
-abbrev pub IsStillDamaged : DeskState → Option DiskState → Unsettled → Type 0
+abbrev pub IsStillDamaged : DeskState → Option DiskState → KeeperRefusal → Type 0
 IsStillDamaged last told StoreFault = Unit {0}
-IsStillDamaged last told (StoreDamaged file line) = ReadsDamaged last told file line
-IsStillDamaged last told Memory = Unit {0}
+IsStillDamaged last told (Damaged file line) = ReadsDamaged last told file line
+IsStillDamaged last told (Memory error) = Unit {0}
 
 -- a command that is answered so leaves a folder that reads so
 abbrev pub TellsDamage : DeskState → Option DiskState → List Message → Type 0

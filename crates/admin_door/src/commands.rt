@@ -18,6 +18,7 @@ ghost use Rattle.server_hall.specs.Tally.{after_stop};
 ghost use Rattle.wire_fields.specs.declared.operations.Heard.TheVariants.{AtAdmin};
 ghost use Rattle.door_frames.specs.declared.endings.Ended.TheVariants.{Memory};
 ghost use Rattle.admin_door.specs.Side.{side_of, decided_of};
+ghost use Rattle.admin_door.specs.Hanging.{HangsOn};
 ghost use Rattle.admin_door.specs.Settling.{IsHungFor, TellsDamage};
 ghost use Rattle.admin_door.specs.Answering.{Answers, Refuses, AnswersQuestion, Obeys, IsUnanswered, Commits};
 ghost use Rattle.admin_door.specs.Answering.{LacksMemory, AnswersUnsettled};
@@ -25,16 +26,16 @@ ghost use Rattle.admin_door.specs.Service.{TellsService};
 ghost use Rattle.admin_door.specs.parts.Asking.{IsNoCommand};
 ghost use Rattle.admin_door.specs.parts.Showing.{Shows, IsUnshown};
 
-use crate::publishing::show;
+use crate::publishing::KeptPublisher;
 use crate::questions::{check_replies, list_replies, one};
 use crate::services::service_replies;
-use crate::settling::{Unsettled, settle};
+use crate::settling::settle;
 use crate::states::state_replies;
-use desk_keeper::{Keeper, PreparedCommit};
+use desk_keeper::{Keeper, KeeperRefusal, PreparedCommit};
 use desk_ports::Disk;
 use desk_state::{Command, Refusal};
 use door_frames::Ended;
-use live_desk::{Naming, Publisher};
+use live_desk::{Event, Events, Front, Naming};
 use server_hall::Hall;
 use std::alloc::Global;
 use std::sync::Wait;
@@ -44,28 +45,29 @@ use wire_messages::{Message, command_of};
 /// done, once its state is durable and published and all older connections are hung up; by the first rule that it
 /// breaks; or by what the store met. A question is answered at the last state that is known to be kept, and `Stop`
 /// stops the hall. It may wait.
-pub fn answer_command<R: Wait, D: Disk, A: Hall, J: Naming>(
+pub fn answer_command<R: Wait, D: Disk, J: Naming, A: Hall<List = J>, P: KeptPublisher<D, J>>(
     rt: &R,
     alloc: Global,
     keeper: &mut Keeper<'_, D>,
-    publisher: &mut Publisher<J>,
+    publisher: &mut P,
     hall: &mut A,
+    hangs: &mut Front<Event, Events<J>>,
     message: &Message,
 ) -> Result<Vec<Message>, Ended>
     requires known { operation_of AtAdmin (number_of (operation message.now)) ≡ Some (operation message.now) }
-    requires behind { last_commit 0 publisher.old ≤ keeper.old.desk.commit }
+    requires behind { last_commit 0 (P.states publisher.old) ≤ keeper.old.desk.commit }
     ensures answered { MatchResult result
         (λ replies. Answers (D.state (disk_of keeper.old)) message.now
-        (side_of D.faults keeper.old publisher.old (A.tally hall.old) (A.calls hall.old))
-        (side_of D.faults keeper.new publisher.new (A.tally hall.new) (A.calls hall.new)) replies.items)
+        (side_of D.faults keeper.old (P.states publisher.old) (A.tally hall.old) (A.calls hall.old))
+        (side_of D.faults keeper.new (P.states publisher.new) (A.tally hall.new) (A.calls hall.new)) replies.items)
         (Refuses (D.state (disk_of keeper.old)) message.now
-        (side_of D.faults keeper.old publisher.old (A.tally hall.old) (A.calls hall.old))
-        (side_of D.faults keeper.new publisher.new (A.tally hall.new) (A.calls hall.new))) }
+        (side_of D.faults keeper.old (P.states publisher.old) (A.tally hall.old) (A.calls hall.old))
+        (side_of D.faults keeper.new (P.states publisher.new) (A.tally hall.new) (A.calls hall.new))) }
     ensures adds { AddsAtMost 2
-        (side_of D.faults keeper.old publisher.old (A.tally hall.old) (A.calls hall.old))
-        (side_of D.faults keeper.new publisher.new (A.tally hall.new) (A.calls hall.new)) }
+        (side_of D.faults keeper.old (P.states publisher.old) (A.tally hall.old) (A.calls hall.old))
+        (side_of D.faults keeper.new (P.states publisher.new) (A.tally hall.new) (A.calls hall.new)) }
     ensures acknowledged { IfOk result (λ replies. Acknowledges message.now
-        (side_of D.faults keeper.new publisher.new (A.tally hall.new) (A.calls hall.new)) replies.items) }
+        (side_of D.faults keeper.new (P.states publisher.new) (A.tally hall.new) (A.calls hall.new)) hangs.new replies.items) }
     ensures service { IfOk result (λ replies. TellsService message.now (A.told hall.old) replies.items) }
 
     // What a stop at any moment of the call may leave in the folder, and what the folder keeps behind the call.
@@ -80,34 +82,37 @@ pub fn answer_command<R: Wait, D: Disk, A: Hall, J: Naming>(
     ensures damaged { IfOk result
         (λ replies. IsSome (words.command_of message.now) → WhereTold (D.state (disk_of keeper.old)) (λ before.
         TellsDamage keeper.old.desk (D.state (disk_of keeper.new)) replies.items)) }
-    ensures behind { last_commit 0 publisher.new ≤ keeper.new.desk.commit }
+    ensures behind { last_commit 0 (P.states publisher.new) ≤ keeper.new.desk.commit }
+    ensures hangs { HangsOn (P.states publisher.old) (P.states publisher.new) hangs.old hangs.new }
     ensures same_disk { IsSameDisk keeper.old keeper.new }
 {
     // proof: both outcomes are named, so that what follows of each is told at the end.
-    match answer(rt, alloc, keeper, publisher, hall, message) {
+    match answer(rt, alloc, keeper, publisher, hall, hangs, message) {
         Ok(replies) => Ok(replies),
         Err(ended) => Err(ended),
     }
 }
 
 // The same. What follows of it on what was published is told by its caller.
-fn answer<R: Wait, D: Disk, A: Hall, J: Naming>(
+#[tactic(auto, using(crate::proofs::Hanging::hangs_none))]
+fn answer<R: Wait, D: Disk, J: Naming, A: Hall<List = J>, P: KeptPublisher<D, J>>(
     rt: &R,
     alloc: Global,
     keeper: &mut Keeper<'_, D>,
-    publisher: &mut Publisher<J>,
+    publisher: &mut P,
     hall: &mut A,
+    hangs: &mut Front<Event, Events<J>>,
     message: &Message,
 ) -> Result<Vec<Message>, Ended>
     requires known { operation_of AtAdmin (number_of (operation message.now)) ≡ Some (operation message.now) }
-    requires behind { last_commit 0 publisher.old ≤ keeper.old.desk.commit }
+    requires behind { last_commit 0 (P.states publisher.old) ≤ keeper.old.desk.commit }
     ensures answered { MatchResult result
         (λ replies. Answers (D.state (disk_of keeper.old)) message.now
-        (side_of D.faults keeper.old publisher.old (A.tally hall.old) (A.calls hall.old))
-        (side_of D.faults keeper.new publisher.new (A.tally hall.new) (A.calls hall.new)) replies.items)
+        (side_of D.faults keeper.old (P.states publisher.old) (A.tally hall.old) (A.calls hall.old))
+        (side_of D.faults keeper.new (P.states publisher.new) (A.tally hall.new) (A.calls hall.new)) replies.items)
         (Refuses (D.state (disk_of keeper.old)) message.now
-        (side_of D.faults keeper.old publisher.old (A.tally hall.old) (A.calls hall.old))
-        (side_of D.faults keeper.new publisher.new (A.tally hall.new) (A.calls hall.new))) }
+        (side_of D.faults keeper.old (P.states publisher.old) (A.tally hall.old) (A.calls hall.old))
+        (side_of D.faults keeper.new (P.states publisher.new) (A.tally hall.new) (A.calls hall.new))) }
     ensures service { IfOk result (λ replies. TellsService message.now (A.told hall.old) replies.items) }
     ensures stops { WhereTold (D.state (disk_of keeper.old)) (λ before.
         KeepsKnown (decided_of keeper.old) keeper.old.desk (held_of keeper.old) before
@@ -120,11 +125,12 @@ fn answer<R: Wait, D: Disk, A: Hall, J: Naming>(
     ensures damaged { IfOk result
         (λ replies. IsSome (words.command_of message.now) → WhereTold (D.state (disk_of keeper.old)) (λ before.
         TellsDamage keeper.old.desk (D.state (disk_of keeper.new)) replies.items)) }
-    ensures behind { last_commit 0 publisher.new ≤ keeper.new.desk.commit }
+    ensures behind { last_commit 0 (P.states publisher.new) ≤ keeper.new.desk.commit }
+    ensures hangs { HangsOn (P.states publisher.old) (P.states publisher.new) hangs.old hangs.new }
     ensures same_disk { IsSameDisk keeper.old keeper.new }
 {
     match command_of(message) {
-        Ok(Some(command)) => obey(rt, alloc, keeper, publisher, hall, &command),
+        Ok(Some(command)) => obey(rt, alloc, keeper, publisher, hall, hangs, &command),
         Ok(None) => answer_question(alloc, keeper, hall, message),
         Err(_) => Err(Ended::Memory),
     }
@@ -177,22 +183,24 @@ fn stop<A: Hall>(alloc: Global, commit: u64, hall: &mut A) -> Result<Vec<Message
 }
 
 // Settles what is left undone, and then does what the command says.
-fn obey<R: Wait, D: Disk, A: Hall, J: Naming>(
+#[tactic(auto, using(crate::proofs::Hanging::hangs_then))]
+fn obey<R: Wait, D: Disk, J: Naming, A: Hall<List = J>, P: KeptPublisher<D, J>>(
     rt: &R,
     alloc: Global,
     keeper: &mut Keeper<'_, D>,
-    publisher: &mut Publisher<J>,
+    publisher: &mut P,
     hall: &mut A,
+    hangs: &mut Front<Event, Events<J>>,
     command: &Command,
 ) -> Result<Vec<Message>, Ended>
-    requires { last_commit 0 publisher.old ≤ keeper.old.desk.commit }
+    requires { last_commit 0 (P.states publisher.old) ≤ keeper.old.desk.commit }
     ensures obeyed { MatchResult result
         (λ replies. Obeys (D.state (disk_of keeper.old)) command.now
-        (side_of D.faults keeper.old publisher.old (A.tally hall.old) (A.calls hall.old))
-        (side_of D.faults keeper.new publisher.new (A.tally hall.new) (A.calls hall.new)) replies.items)
+        (side_of D.faults keeper.old (P.states publisher.old) (A.tally hall.old) (A.calls hall.old))
+        (side_of D.faults keeper.new (P.states publisher.new) (A.tally hall.new) (A.calls hall.new)) replies.items)
         (λ ended. (ended ≡ Memory) × IsUnanswered (D.state (disk_of keeper.old)) command.now
-        (side_of D.faults keeper.old publisher.old (A.tally hall.old) (A.calls hall.old))
-        (side_of D.faults keeper.new publisher.new (A.tally hall.new) (A.calls hall.new))) }
+        (side_of D.faults keeper.old (P.states publisher.old) (A.tally hall.old) (A.calls hall.old))
+        (side_of D.faults keeper.new (P.states publisher.new) (A.tally hall.new) (A.calls hall.new))) }
     ensures stops { WhereTold (D.state (disk_of keeper.old)) (λ before.
         KeepsKnown (decided_of keeper.old) keeper.old.desk (held_of keeper.old) before
         → LeavesOnly D.moment D.left_since (disk_of keeper.old) (disk_of keeper.new)
@@ -203,48 +211,51 @@ fn obey<R: Wait, D: Disk, A: Hall, J: Naming>(
     ensures tells { StillTells (D.state (disk_of keeper.old)) (D.state (disk_of keeper.new)) }
     ensures damaged { IfOk result (λ replies. WhereTold (D.state (disk_of keeper.old)) (λ before.
         TellsDamage keeper.old.desk (D.state (disk_of keeper.new)) replies.items)) }
-    ensures behind { last_commit 0 publisher.new ≤ keeper.new.desk.commit }
+    ensures behind { last_commit 0 (P.states publisher.new) ≤ keeper.new.desk.commit }
+    ensures hangs { HangsOn (P.states publisher.old) (P.states publisher.new) hangs.old hangs.new }
     ensures same_disk { IsSameDisk keeper.old keeper.new }
 {
     let shown = publisher.commit();
-    match settle(rt, keeper, publisher, hall) {
-        Ok(()) => commit(rt, alloc, keeper, publisher, hall, command, shown),
+    match settle(rt, keeper, publisher, hall, hangs) {
+        Ok(()) => commit(rt, alloc, keeper, publisher, hall, hangs, command, shown),
         Err(reason) => tell_unsettled(alloc, reason),
     }
 }
 
 // What a command is answered that could not be settled.
-fn tell_unsettled(alloc: Global, reason: Unsettled) -> Result<Vec<Message>, Ended>
+fn tell_unsettled(alloc: Global, reason: KeeperRefusal) -> Result<Vec<Message>, Ended>
     ensures { MatchResult result (λ replies. AnswersUnsettled reason replies.items) (λ ended. ended ≡ Memory) }
 {
     match reason {
-        Unsettled::StoreFault => one(alloc, Message::StoreFault),
-        Unsettled::StoreDamaged { file, line } => one(alloc, Message::StoreDamaged { file, line }),
-        Unsettled::Memory => Err(Ended::Memory),
+        KeeperRefusal::StoreFault => one(alloc, Message::StoreFault),
+        KeeperRefusal::Damaged { file, line } => one(alloc, Message::StoreDamaged { file, line }),
+        KeeperRefusal::Memory(_) => Err(Ended::Memory),
     }
 }
 
 // Does what the command says, from a state that is kept and shown to all: where one was published behind the commit
 // that is given, all older connections are hung up.
-fn commit<R: Wait, D: Disk, A: Hall, J: Naming>(
+#[tactic(auto, using(crate::proofs::Hanging::hangs_none))]
+fn commit<R: Wait, D: Disk, J: Naming, A: Hall<List = J>, P: KeptPublisher<D, J>>(
     rt: &R,
     alloc: Global,
     keeper: &mut Keeper<'_, D>,
-    publisher: &mut Publisher<J>,
+    publisher: &mut P,
     hall: &mut A,
+    hangs: &mut Front<Event, Events<J>>,
     command: &Command,
     shown: u64,
 ) -> Result<Vec<Message>, Ended>
     requires decided { decided_of keeper.old ≡ true }
-    requires even { last_commit 0 publisher.old ≡ keeper.old.desk.commit }
-    requires hung { IsHungFor shown publisher.old (A.tally hall.old) }
+    requires even { last_commit 0 (P.states publisher.old) ≡ keeper.old.desk.commit }
+    requires hung { IsHungFor shown (P.states publisher.old) (A.tally hall.old) }
     ensures committed { MatchResult result
         (λ replies. Commits command.now
-        (side_of D.faults keeper.old publisher.old (A.tally hall.old) (A.calls hall.old))
-        (side_of D.faults keeper.new publisher.new (A.tally hall.new) (A.calls hall.new)) replies.items)
+        (side_of D.faults keeper.old (P.states publisher.old) (A.tally hall.old) (A.calls hall.old))
+        (side_of D.faults keeper.new (P.states publisher.new) (A.tally hall.new) (A.calls hall.new)) replies.items)
         (λ ended. (ended ≡ Memory) × LacksMemory command.now
-        (side_of D.faults keeper.old publisher.old (A.tally hall.old) (A.calls hall.old))
-        (side_of D.faults keeper.new publisher.new (A.tally hall.new) (A.calls hall.new))) }
+        (side_of D.faults keeper.old (P.states publisher.old) (A.tally hall.old) (A.calls hall.old))
+        (side_of D.faults keeper.new (P.states publisher.new) (A.tally hall.new) (A.calls hall.new))) }
     ensures stops { WhereTold (D.state (disk_of keeper.old))
         (λ before. IsKept keeper.old.desk (held_of keeper.old) before
         → LeavesOnly D.moment D.left_since (disk_of keeper.old) (disk_of keeper.new)
@@ -253,11 +264,12 @@ fn commit<R: Wait, D: Disk, A: Hall, J: Naming>(
         (λ before. IsKept keeper.old.desk (held_of keeper.old) before
         → decided_of keeper.new ≡ true → EndsKept keeper.new.desk (held_of keeper.new) (D.state (disk_of keeper.new))) }
     ensures tells { StillTells (D.state (disk_of keeper.old)) (D.state (disk_of keeper.new)) }
-    ensures behind { last_commit 0 publisher.new ≤ keeper.new.desk.commit }
+    ensures behind { last_commit 0 (P.states publisher.new) ≤ keeper.new.desk.commit }
+    ensures hangs { HangsOn (P.states publisher.old) (P.states publisher.new) hangs.old hangs.new }
     ensures same_disk { IsSameDisk keeper.old keeper.new }
 {
     match keeper.prepare(command) {
-        Ok(prepared) => commit_prepared(rt, alloc, keeper, publisher, hall, prepared),
+        Ok(prepared) => commit_prepared(rt, alloc, keeper, publisher, hall, hangs, prepared),
         Err(refusal) => tell_refusal(alloc, refusal),
     }
 }
@@ -275,25 +287,27 @@ fn tell_refusal(alloc: Global, refusal: Refusal) -> Result<Vec<Message>, Ended>
 
 // Commits what was prepared, and then shows it to all. All memory but that of the publication is taken before the
 // commit.
-fn commit_prepared<R: Wait, D: Disk, A: Hall, J: Naming>(
+#[tactic(auto, using(crate::proofs::Hanging::hangs_none, crate::proofs::Hanging::hangs_same, crate::proofs::Hanging::hangs_from))]
+fn commit_prepared<R: Wait, D: Disk, J: Naming, A: Hall<List = J>, P: KeptPublisher<D, J>>(
     rt: &R,
     alloc: Global,
     keeper: &mut Keeper<'_, D>,
-    publisher: &mut Publisher<J>,
+    publisher: &mut P,
     hall: &mut A,
+    hangs: &mut Front<Event, Events<J>>,
     prepared: PreparedCommit,
 ) -> Result<Vec<Message>, Ended>
     requires decided { decided_of keeper.old ≡ true }
     requires prepared { prepared.save.gone ≡ gone_names (held_of keeper.old) prepared.save.set }
-    requires newer { last_commit 0 publisher.old < prepared.desk.commit }
-    requires behind { last_commit 0 publisher.old ≤ keeper.old.desk.commit }
+    requires newer { last_commit 0 (P.states publisher.old) < prepared.desk.commit }
+    requires behind { last_commit 0 (P.states publisher.old) ≤ keeper.old.desk.commit }
     ensures shown { MatchResult result
         (λ replies. Shows prepared.desk prepared.erased
-        (side_of D.faults keeper.old publisher.old (A.tally hall.old) (A.calls hall.old))
-        (side_of D.faults keeper.new publisher.new (A.tally hall.new) (A.calls hall.new)) replies.items)
+        (side_of D.faults keeper.old (P.states publisher.old) (A.tally hall.old) (A.calls hall.old))
+        (side_of D.faults keeper.new (P.states publisher.new) (A.tally hall.new) (A.calls hall.new)) replies.items)
         (λ ended. (ended ≡ Memory) × IsUnshown prepared.desk
-        (side_of D.faults keeper.old publisher.old (A.tally hall.old) (A.calls hall.old))
-        (side_of D.faults keeper.new publisher.new (A.tally hall.new) (A.calls hall.new))) }
+        (side_of D.faults keeper.old (P.states publisher.old) (A.tally hall.old) (A.calls hall.old))
+        (side_of D.faults keeper.new (P.states publisher.new) (A.tally hall.new) (A.calls hall.new))) }
     ensures stops { WhereTold (D.state (disk_of keeper.old))
         (λ before. IsKept keeper.old.desk (held_of keeper.old) before
         → LeavesOnly D.moment D.left_since (disk_of keeper.old) (disk_of keeper.new)
@@ -302,7 +316,8 @@ fn commit_prepared<R: Wait, D: Disk, A: Hall, J: Naming>(
         (λ before. IsKept keeper.old.desk (held_of keeper.old) before
         → decided_of keeper.new ≡ true → EndsKept keeper.new.desk (held_of keeper.new) (D.state (disk_of keeper.new))) }
     ensures tells { StillTells (D.state (disk_of keeper.old)) (D.state (disk_of keeper.new)) }
-    ensures behind { last_commit 0 publisher.new ≤ keeper.new.desk.commit }
+    ensures behind { last_commit 0 (P.states publisher.new) ≤ keeper.new.desk.commit }
+    ensures hangs { HangsOn (P.states publisher.old) (P.states publisher.new) hangs.old hangs.new }
     ensures same_disk { IsSameDisk keeper.old keeper.new }
 {
     let commit = prepared.desk().commit();
@@ -319,7 +334,7 @@ fn commit_prepared<R: Wait, D: Disk, A: Hall, J: Naming>(
     let Ok(_) = keeper.commit(prepared) else {
         return Ok(fault);
     };
-    match show(rt, keeper, publisher, hall, ready) {
+    match publisher.show(rt, keeper, hall, hangs, ready) {
         Ok(()) => Ok(done),
         Err(_) => Err(Ended::Memory),
     }

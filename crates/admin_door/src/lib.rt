@@ -7,6 +7,7 @@
 
 mod admin_loops;
 mod commands;
+mod due_links;
 mod laws;
 mod publishing;
 mod questions;
@@ -16,8 +17,10 @@ mod states;
 
 pub use admin_loops::admin_loop;
 pub use commands::answer_command;
+pub use due_links::DueLink;
 pub use laws::{
     a_command_is_decided_where_no_call_fails, a_folder_that_is_known_leads_on,
     an_acknowledged_command_lasts, each_frame_of_an_administrator_is_answered,
     each_published_state_is_reached,
 };
+pub use publishing::KeptPublisher;

@@ -12,42 +12,36 @@ ghost use Rattle.live_desk.specs.History.{last_commit};
 ghost use Rattle.server_hall.specs.Tally.{Tally};
 ghost use Rattle.server_hall.specs.declared.calls.HallCall.{HallCall};
 ghost use Rattle.admin_door.specs.Side.{side_of, decided_of};
-ghost use Rattle.admin_door.specs.Settling.{IsFound, Settles, Unsettles, IsStillDamaged, with_last_shown};
-ghost use Rattle.admin_door.specs.declared.settling.Unsettled.TheVariants.{Memory};
+ghost use Rattle.admin_door.specs.Hanging.{HangsOn};
+ghost use Rattle.admin_door.specs.Settling.{IsFound, Settles, Unsettles, LacksMemoryAlone, IsStillDamaged, with_last_shown};
 
-use crate::publishing::show;
+use crate::publishing::KeptPublisher;
 use desk_keeper::{Keeper, KeeperRefusal};
-use desk_ports::{Disk, FileName};
-use live_desk::{Naming, Publisher};
+use desk_ports::Disk;
+use live_desk::{Event, Events, Front, Naming};
 use server_hall::Hall;
+use std::alloc::AllocError;
 use std::sync::Wait;
 
-/// Why it is not settled what an earlier command left undone.
-#[derive(Debug, Drop)]
-pub(crate) enum Unsettled {
-    /// A call of the disk failed.
-    StoreFault,
-    /// The folder stands for no policy state, or for an older one.
-    StoreDamaged { file: FileName, line: u32 },
-    Memory,
-}
-
 /// Remounts a keeper that is undecided; and publishes its state, and hangs up all older connections, where its commit
-/// is above that of the publisher. It may wait.
-pub(crate) fn settle<R: Wait, D: Disk, A: Hall, J: Naming>(
+/// is above that of the publisher. It may wait. Refuses `StoreFault`, where a call of the disk failed; `Damaged`, where
+/// the folder stands for no policy state, or for an older one; and `Memory`.
+#[tactic(auto, using(crate::proofs::Hanging::hangs_none))]
+pub(crate) fn settle<R: Wait, D: Disk, J: Naming, A: Hall<List = J>, P: KeptPublisher<D, J>>(
     rt: &R,
     keeper: &mut Keeper<'_, D>,
-    publisher: &mut Publisher<J>,
+    publisher: &mut P,
     hall: &mut A,
-) -> Result<(), Unsettled>
-    requires { last_commit 0 publisher.old ≤ keeper.old.desk.commit }
+    hangs: &mut Front<Event, Events<J>>,
+) -> Result<(), KeeperRefusal>
+    requires { last_commit 0 (P.states publisher.old) ≤ keeper.old.desk.commit }
     ensures settled { MatchResult result
         (λ _. Settles (D.state (disk_of keeper.old))
-        (side_of D.faults keeper.old publisher.old (A.tally hall.old) (A.calls hall.old))
-        (side_of D.faults keeper.new publisher.new (A.tally hall.new) (A.calls hall.new)))
+        (side_of D.faults keeper.old (P.states publisher.old) (A.tally hall.old) (A.calls hall.old))
+        (side_of D.faults keeper.new (P.states publisher.new) (A.tally hall.new) (A.calls hall.new)))
         (Unsettles (D.state (disk_of keeper.old))
-        (side_of D.faults keeper.old publisher.old (A.tally hall.old) (A.calls hall.old))
-        (side_of D.faults keeper.new publisher.new (A.tally hall.new) (A.calls hall.new))) }
+        (side_of D.faults keeper.old (P.states publisher.old) (A.tally hall.old) (A.calls hall.old))
+        (side_of D.faults keeper.new (P.states publisher.new) (A.tally hall.new) (A.calls hall.new))) }
     ensures stops { WhereTold (D.state (disk_of keeper.old)) (λ before.
         LeavesOnly D.moment D.left_since (disk_of keeper.old) (disk_of keeper.new) (StandsAsAt before)) }
     ensures kept { WhereTold (D.state (disk_of keeper.old)) (λ before.
@@ -58,21 +52,22 @@ pub(crate) fn settle<R: Wait, D: Disk, A: Hall, J: Naming>(
     ensures damaged { IfErr result (λ reason. WhereTold (D.state (disk_of keeper.old)) (λ before.
         IsStillDamaged keeper.old.desk (D.state (disk_of keeper.new)) reason)) }
     ensures decided { OnOk result (decided_of keeper.new ≡ true) }
-    ensures even { OnOk result (last_commit 0 publisher.new ≡ keeper.new.desk.commit) }
-    ensures behind { OnErr result (last_commit 0 publisher.new ≤ keeper.new.desk.commit) }
+    ensures even { OnOk result (last_commit 0 (P.states publisher.new) ≡ keeper.new.desk.commit) }
+    ensures behind { OnErr result (last_commit 0 (P.states publisher.new) ≤ keeper.new.desk.commit) }
+    ensures hangs { HangsOn (P.states publisher.old) (P.states publisher.new) hangs.old hangs.new }
     ensures same_disk { IsSameDisk keeper.old keeper.new }
 {
     if keeper.is_decided() {
-        return publish_kept(rt, keeper, publisher, hall);
+        return publish_kept(rt, keeper, publisher, hall, hangs);
     }
     match remount(keeper) {
-        Ok(()) => publish_kept(rt, keeper, publisher, hall),
+        Ok(()) => publish_kept(rt, keeper, publisher, hall, hangs),
         Err(reason) => Err(reason),
     }
 }
 
 // Settles what the folder keeps.
-fn remount<D: Disk>(keeper: &mut Keeper<'_, D>) -> Result<(), Unsettled>
+fn remount<D: Disk>(keeper: &mut Keeper<'_, D>) -> Result<(), KeeperRefusal>
     requires { decided_of keeper.old ≡ false }
     ensures remounted { (published : List DeskState) (tally : Tally) (calls : Option (List HallCall))
         → MatchResult result
@@ -94,37 +89,41 @@ fn remount<D: Disk>(keeper: &mut Keeper<'_, D>) -> Result<(), Unsettled>
 {
     match keeper.remount() {
         Ok(()) => Ok(()),
-        Err(KeeperRefusal::StoreFault) => Err(Unsettled::StoreFault),
-        Err(KeeperRefusal::Damaged { file, line }) => Err(Unsettled::StoreDamaged { file, line }),
-        Err(KeeperRefusal::Memory(_)) => Err(Unsettled::Memory),
+        // proof: handed on by value, it is not gone through variant by variant here.
+        Err(KeeperRefusal::StoreFault) => Err(KeeperRefusal::StoreFault),
+        Err(KeeperRefusal::Damaged { file, line }) => Err(KeeperRefusal::Damaged { file, line }),
+        Err(KeeperRefusal::Memory(error)) => Err(KeeperRefusal::Memory(error)),
     }
 }
 
 // Shows the state that the folder keeps to all, where it is newer than what was published.
-fn publish_kept<R: Wait, D: Disk, A: Hall, J: Naming>(
+#[tactic(auto, using(crate::proofs::Hanging::hangs_none, crate::proofs::Hanging::hangs_same, crate::proofs::Hanging::hangs_from))]
+fn publish_kept<R: Wait, D: Disk, J: Naming, A: Hall<List = J>, P: KeptPublisher<D, J>>(
     rt: &R,
     keeper: &Keeper<'_, D>,
-    publisher: &mut Publisher<J>,
+    publisher: &mut P,
     hall: &mut A,
-) -> Result<(), Unsettled>
+    hangs: &mut Front<Event, Events<J>>,
+) -> Result<(), KeeperRefusal>
     requires decided { decided_of keeper.now ≡ true }
-    requires behind { last_commit 0 publisher.old ≤ keeper.now.desk.commit }
+    requires behind { last_commit 0 (P.states publisher.old) ≤ keeper.now.desk.commit }
     ensures shown { MatchResult result
-        (λ _. side_of D.faults keeper.now publisher.new (A.tally hall.new) (A.calls hall.new)
-        ≡ with_last_shown (side_of D.faults keeper.now publisher.old (A.tally hall.old) (A.calls hall.old)))
-        (λ reason. (reason ≡ Memory) × (side_of D.faults keeper.now publisher.new (A.tally hall.new) (A.calls hall.new)
-        ≡ side_of D.faults keeper.now publisher.old (A.tally hall.old) (A.calls hall.old))) }
-    ensures even { OnOk result (last_commit 0 publisher.new ≡ keeper.now.desk.commit) }
-    ensures behind { last_commit 0 publisher.new ≤ keeper.now.desk.commit }
+        (λ _. side_of D.faults keeper.now (P.states publisher.new) (A.tally hall.new) (A.calls hall.new)
+        ≡ with_last_shown (side_of D.faults keeper.now (P.states publisher.old) (A.tally hall.old) (A.calls hall.old)))
+        (λ reason. LacksMemoryAlone reason × (side_of D.faults keeper.now (P.states publisher.new) (A.tally hall.new) (A.calls hall.new)
+        ≡ side_of D.faults keeper.now (P.states publisher.old) (A.tally hall.old) (A.calls hall.old))) }
+    ensures even { OnOk result (last_commit 0 (P.states publisher.new) ≡ keeper.now.desk.commit) }
+    ensures behind { last_commit 0 (P.states publisher.new) ≤ keeper.now.desk.commit }
+    ensures hangs { HangsOn (P.states publisher.old) (P.states publisher.new) hangs.old hangs.new }
 {
     if publisher.commit() >= keeper.desk().commit() {
         return Ok(());
     }
     let Ok(ready) = publisher.prepare(keeper.desk()) else {
-        return Err(Unsettled::Memory);
+        return Err(KeeperRefusal::Memory(AllocError));
     };
-    match show(rt, keeper, publisher, hall, ready) {
+    match publisher.show(rt, keeper, hall, hangs, ready) {
         Ok(()) => Ok(()),
-        Err(_) => Err(Unsettled::Memory),
+        Err(error) => Err(KeeperRefusal::Memory(error)),
     }
 }

@@ -3,3 +3,4 @@ pub mod Talking
 pub mod Scripts
 pub mod Counting
 pub mod Running
+pub mod Completing

@@ -1,5 +1,5 @@
 -- What `admin` reads, sends and says, and how it ends.
-use Rattle.std.specs.Prelude.{◌≡◌, ◌⊎◌, ◌≤◌, ℕ, List, [], ◌∷◌, ◌++◌, length, map, Option, None, Result, Ok, Err}
+use Rattle.std.specs.Prelude.{◌≡◌, ◌⊎◌, ◌≤◌, ℕ, List, [], ◌∷◌, ◌++◌, length, map, Option, Some, None, Result, Ok, Err}
 use Rattle.std.specs.List.{flat_map}
 use Rattle.std.specs.Option.{option_to_list}
 use Rattle.desk_ports.specs.Faults.{next_count}
@@ -9,8 +9,10 @@ use Rattle.link_ports.specs.NetCounts.{MayCountFailure}
 use Rattle.script_words.specs.declared.places.Place.TheVariants.{Admin}
 use Rattle.line_script.specs.declared.steps.Step.{Step}
 use Rattle.script_replies.specs.Reading.{ReadsLines, ReadsAllLines, ReadsWhole, MeetsWrongLine}
+use Rattle.script_replies.specs.Script.{read_script, wrong_line}
 use Rattle.wire_fields.specs.declared.messages.Message.{Message}
 use Rattle.client_connection.specs.Giving.{GivesBackAny}
+use Rattle.client_connection.specs.declared.faults.ReplyFault.{ReplyFault}
 use Rattle.admin_client.specs.Sending.{State, Sends}
 use Rattle.admin_client.specs.declared.refusals.AdminRefusal.{AdminRefusal}
 use Rattle.admin_client.specs.declared.refusals.AdminRefusal.TheVariants as refusal
@@ -130,6 +132,27 @@ module _ {N L : Type 0} (link_faults : L → ℕ) (marks : L → LinkMarks) (tra
     pub script : SendsScript said ending source source_after
         (record { dial = before; link = None; sequence = 0 }) client
     pub given : GivesBackAny faults dials given_back link_faults marks client.link client.dial after
+
+  -- ---- a run that no failing call stops
+
+  -- one more message was due, and this is why it has no answer
+  abbrev pub HasNoAnswer : AdminRefusal → List Message → State N L → State N L → Type 0
+  HasNoAnswer why last old new = (message : Message) × (last ≡ message ∷ []) × SendsOnce message (Err why) old new
+
+  -- Behind the messages that were answered the run ends since the input has no further line, or a wrong one; or since what came in reply
+  -- to one more message is none, or its frame would be too long; or for want of memory.
+  abbrev pub EndsUnfailed : Ending → List ℕ → List Message → State N L → State N L → Type 0
+  EndsUnfailed Done input last old new = (wrong_line (read_script Admin input) ≡ None) × IsNone last old new
+  EndsUnfailed (Line number) input last old new = (wrong_line (read_script Admin input) ≡ Some number) × IsNone last old new
+  EndsUnfailed Reply input last old new = (fault : ReplyFault) × HasNoAnswer (refusal.BadReply fault) last old new
+  EndsUnfailed (TooLong size) input last old new = HasNoAnswer (refusal.TooLong size) last old new
+  EndsUnfailed Memory input last old new = Unit {0}
+  EndsUnfailed ending input last old new = ⊥
+
+  -- what such a run does
+  abbrev pub CompletesAdmin : Said → Ending → SourceSeen → SourceSeen → N → N → Type 0
+  CompletesAdmin said ending source source_after before after = (run : RunsAdmin said ending source source_after before after)
+      × EndsUnfailed ending run.script.input run.script.last run.script.between run.client
 
 -- The count of the dialler behind a run: one dial failed, or one link, where the service was out of reach. Else none
 -- did, unless a link that was given back had ended or failed.

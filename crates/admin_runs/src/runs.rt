@@ -1,12 +1,12 @@
 // `admin`.
 ghost use Rattle.std.specs.Prelude.{◌≡◌, ◌≤◌};
-ghost use Rattle.run_endings.specs.Ending.{source_faults_after};
+ghost use Rattle.run_endings.specs.Ending.{source_faults_after, Unraised};
 ghost use Rattle.run_endings.specs.Outside.{source_seen, sink_seen};
 ghost use Rattle.run_endings.specs.Saying.{Said, WritesAnswers};
 ghost use Rattle.admin_client.specs.Sending.{with_dial};
 ghost use Rattle.script_replies.specs.Limits.{most_script_bytes};
 ghost use Rattle.script_replies.specs.NextLine.{counts_source};
-ghost use Rattle.admin_runs.specs.AdminRun.{RunsAdmin, IsCounted};
+ghost use Rattle.admin_runs.specs.AdminRun.{RunsAdmin, CompletesAdmin, IsCounted};
 ghost use Rattle.admin_runs.specs.parts.Talk as words;
 ghost use Rattle.admin_runs.specs.parts.Talk.{Talks};
 ghost use Rattle.admin_runs.specs.parts.Script.{SendsAll, EndsScript};
@@ -37,6 +37,11 @@ pub fn run_admin<S: Source, K: Sink, N: Dial>(
         × WritesAnswers result said (sink_seen K.taken K.faults sink.old) (sink_seen K.taken K.faults sink.new) }
     ensures source { S.faults source.new ≡ source_faults_after result (S.faults source.old) }
     ensures count { IsCounted result (N.faults dial.old) (N.faults dial.new) }
+    ensures completes { Unraised (S.faults source.old) (S.faults source.new) → Unraised (K.faults sink.old) (K.faults sink.new)
+        → Unraised (N.faults dial.old) (N.faults dial.new)
+        → (said : Said) × CompletesAdmin N.Link.faults N.Link.marks N.Link.traffic N.faults N.dials N.given_back
+        said result (source_seen S.left S.faults source.old) (source_seen S.left S.faults source.new) dial.old dial.new
+        × WritesAnswers result said (sink_seen K.taken K.faults sink.old) (sink_seen K.taken K.faults sink.new) }
 {
     let mut link = AdminLink::new(alloc);
     let ending = ending_by(send_script(alloc, &mut link, source, sink, dial));

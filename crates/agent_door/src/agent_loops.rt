@@ -5,24 +5,25 @@ ghost use Rattle.door_frames.specs.Hearing.{IsSound};
 ghost use Rattle.agent_door.specs.Serving.{AgentSide, agent_side, Asks, Serves};
 ghost use Rattle.agent_door.specs.parts.Talk.{HasJoined, TellsTaken};
 
+use crate::agent_halls::AgentHall;
+use crate::hearing::LinkFeeder;
 use crate::messages::{Registration, read_registration};
 use crate::rounds::round;
 use crate::sending::send;
 use agent_table::RegisterRefusal;
 use cynara_keys::Kind;
 use desk_ports::Bytes;
-use door_frames::{Ended, MOST_PIECE, next_frame};
+use door_frames::{Ended, MOST_PIECE};
 use link_ports::Link;
-use server_hall::Hall;
 use std::alloc::Global;
 use std::sync::Wait;
-use wire_messages::{Feeder, Heard, Message};
+use wire_messages::Message;
 
 /// Serves one connection of an agent: it registers for a kind, is given one question of the kind after the other, and
 /// each of its answers is handed to the hall. It is told of a question that was withdrawn before it answered. An agent
 /// whose kind is taken, or for which there is no room, is told so, and its connection ends. So does that of an agent
 /// that left, and of one that has not answered a question in 600 turns of a tenth of a second at most. It may wait.
-pub fn agent_loop<R: Wait, A: Hall, L: Link>(
+pub fn agent_loop<R: Wait, L: Link, A: AgentHall<L>>(
     rt: &R,
     alloc: Global,
     hall: &mut A,
@@ -32,10 +33,10 @@ pub fn agent_loop<R: Wait, A: Hall, L: Link>(
         (agent_side (A.tally hall.old) (A.calls hall.old) (L.traffic link.old) (L.marks link.old) (L.faults link.old))
         (agent_side (A.tally hall.new) (A.calls hall.new) (L.traffic link.new) (L.marks link.new) (L.faults link.new)) }
 {
-    let mut feeder = Feeder::new(alloc, Heard::AtAgent);
+    let mut feeder = LinkFeeder::<L>::new(alloc);
     let mut frame = Bytes::new(alloc);
     let mut room = [0u8; MOST_PIECE];
-    let registered = match next_frame(rt, link, &mut feeder, &mut room) {
+    let registered = match feeder.next_frame(rt, link, &mut room) {
         Ok(framed) => match read_registration(framed) {
             Ok(registered) => registered,
             Err(ended) => return ended,
@@ -79,11 +80,11 @@ fn tell_taken<L: Link>(link: &mut L, frame: &mut Bytes, registered: Registration
 }
 
 // Serves an agent that has joined, until the connection ends.
-fn serve<R: Wait, A: Hall, L: Link>(
+fn serve<R: Wait, L: Link, A: AgentHall<L>>(
     rt: &R,
     hall: &mut A,
     link: &mut L,
-    feeder: &mut Feeder,
+    feeder: &mut LinkFeeder<L>,
     room: &mut [u8],
     frame: &mut Bytes,
     registered: Registration,

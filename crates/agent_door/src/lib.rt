@@ -3,12 +3,16 @@
 //! tenth of a second whether it is still there and the question still open.
 #![tactic(auto)]
 
+mod agent_halls;
 mod agent_loops;
+mod hearing;
 mod laws;
 mod messages;
 mod rounds;
 mod sending;
 mod waiting;
 
+pub use agent_halls::AgentHall;
 pub use agent_loops::agent_loop;
+pub use hearing::HeardAnswer;
 pub use laws::{a_silent_agent_is_told_nothing, each_frame_of_an_agent_is_heeded};

@@ -1,5 +1,5 @@
 // One question after the other, until it is answered or withdrawn.
-ghost use Rattle.std.specs.Prelude.{◌≡◌, ◌<◌, ◌≤◌, ℕ, List, [], ◌∷◌, Bool, false};
+ghost use Rattle.std.specs.Prelude.{◌≡◌, ◌<◌, ◌≤◌, [], ◌∷◌, Bool, false};
 ghost use Rattle.std.specs.Prelude.{not, IsTrue, Some, None, length, MatchResult, OnOk, Result};
 ghost use Rattle.std.specs.List.{flat_map};
 ghost use Rattle.cynara_keys.specs.PolicyResult.{is_agent};
@@ -8,24 +8,24 @@ ghost use Rattle.agent_table.specs.declared.refusals.AnswerRefusal as refusal_ty
 ghost use Rattle.wire_reading.specs.Frame.{spelling};
 ghost use Rattle.wire_fields.specs.declared.operations.Heard.TheVariants.{AtAgent};
 ghost use Rattle.door_frames.specs.Carried.{Carried};
-ghost use Rattle.door_frames.specs.Hearing.{IsSound, HandsOut};
+ghost use Rattle.door_frames.specs.Hearing.{IsSound};
 ghost use Rattle.door_frames.specs.Ending.{EndsSending};
-ghost use Rattle.agent_door.specs.Frame.{answer_frame, question_frame, unknown_frame, withdrawn_frame};
+ghost use Rattle.agent_door.specs.Frame.{question_frame, unknown_frame, withdrawn_frame};
 ghost use Rattle.agent_door.specs.Round.{told_of, told_at};
 ghost use Rattle.agent_door.specs.Serving.{agent_side};
 ghost use Rattle.agent_door.specs.parts.Talk.{Goes, Ends, HandsIn, LooksIn, TakesTurn, waiting_since};
 
-use crate::messages::{Answer, Registration};
+use crate::agent_halls::AgentHall;
+use crate::hearing::{HeardAnswer, LinkFeeder};
+use crate::messages::Registration;
 use crate::sending::send;
-use crate::waiting::answer_in_time;
 use agent_table::Asked;
 use cynara_keys::{Kind, PolicyResult};
 use desk_ports::Bytes;
 use door_frames::Ended;
 use link_ports::Link;
-use server_hall::{Hall, NextRefusal};
-use std::snapshot::Snapshot;
-use wire_messages::{Feeder, Message};
+use server_hall::NextRefusal;
+use wire_messages::Message;
 
 /// How many turns a question may be open, each a tenth of a second at most: an agent that has not answered in this
 /// time, a minute, is treated as one that left.
@@ -33,10 +33,10 @@ pub const MOST_TURNS: u32 = 600;
 
 /// Gives the agent its next question, and waits until that is answered or withdrawn. An agent that left, and one that
 /// does not answer in time, ends its connection. It may wait.
-pub(crate) fn round<A: Hall, L: Link>(
+pub(crate) fn round<L: Link, A: AgentHall<L>>(
     hall: &mut A,
     link: &mut L,
-    feeder: &mut Feeder,
+    feeder: &mut LinkFeeder<L>,
     room: &mut [u8],
     frame: &mut Bytes,
     registration: Registration,
@@ -112,10 +112,10 @@ fn send_question<L: Link>(
 }
 
 // Takes turns until the question of this number is answered or withdrawn.
-fn take_turns<A: Hall, L: Link>(
+fn take_turns<L: Link, A: AgentHall<L>>(
     hall: &mut A,
     link: &mut L,
-    feeder: &mut Feeder,
+    feeder: &mut LinkFeeder<L>,
     room: &mut [u8],
     frame: &mut Bytes,
     registration: Registration,
@@ -151,10 +151,10 @@ fn take_turns<A: Hall, L: Link>(
 
 // Hands in the next answer, if one comes in time, and else looks whether the question of this number is open still.
 // Whether its round is closed.
-fn take_turn<A: Hall, L: Link>(
+fn take_turn<L: Link, A: AgentHall<L>>(
     hall: &mut A,
     link: &mut L,
-    feeder: &mut Feeder,
+    feeder: &mut LinkFeeder<L>,
     room: &mut [u8],
     frame: &mut Bytes,
     registration: Registration,
@@ -172,11 +172,11 @@ fn take_turn<A: Hall, L: Link>(
         (agent_side (A.tally hall.new) (A.calls hall.new) (L.traffic link.new) (L.marks link.new) (L.faults link.new))
         feeder.new }
 {
-    let before = Snapshot::of(feeder);
-    match answer_in_time(link, feeder, room) {
-        Ok(Some(given)) => {
+    match feeder.answer_in_time(link, room) {
+        Ok(Some(heard)) => {
             let kind = registration.kind;
-            if let Err(ended) = hand_in(hall, link, frame, kind, given, feeder, before) {
+            let given = heard.given();
+            if let Err(ended) = hand_in(hall, link, frame, kind, heard) {
                 return Err(ended);
             }
             return Ok(given.number == number);
@@ -190,7 +190,7 @@ fn take_turn<A: Hall, L: Link>(
 }
 
 // Looks whether the question of the number is open still, and tells the agent where it is not. Whether it told so.
-fn look<A: Hall, L: Link>(
+fn look<L: Link, A: AgentHall<L>>(
     hall: &mut A,
     link: &mut L,
     frame: &mut Bytes,
@@ -217,32 +217,30 @@ fn look<A: Hall, L: Link>(
     }
 }
 
-// Hands to the hall the answer that was taken off the feeder last. One that the hall refuses is told so.
-fn hand_in<A: Hall, L: Link>(
+// Hands to the hall an answer that was heard. One that the hall refuses is told so.
+fn hand_in<L: Link, A: AgentHall<L>>(
     hall: &mut A,
     link: &mut L,
     frame: &mut Bytes,
     kind: Kind,
-    given: Answer,
-    feeder: &Feeder,
-    before: Snapshot<Feeder>,
+    heard: HeardAnswer<L>,
 ) -> Result<(), Ended>
     requires agent { IsTrue (is_agent kind.0) }
-    requires heard { (bytes : List ℕ) × HandsOut bytes (answer_frame given) before.value feeder.now }
     ensures handed { (outcome : Result (Unit {0}) refusal_type.AnswerRefusal)
-        × HandsIn kind given outcome (A.tally hall.old) (A.calls hall.old) (A.tally hall.new) (A.calls hall.new)
+        × HandsIn kind heard outcome (A.tally hall.old) (A.calls hall.old) (A.tally hall.new) (A.calls hall.new)
         × MatchResult result
-        (λ _. Carried (L.traffic link.old) (L.traffic link.new) [] (flat_map spelling (told_of outcome given))
+        (λ _. Carried (L.traffic link.old) (L.traffic link.new) [] (flat_map spelling (told_of outcome heard))
         × (L.faults link.new ≡ L.faults link.old))
-        (λ ended. (told_of outcome given ≡ unknown_frame given ∷ [])
+        (λ ended. (told_of outcome heard ≡ unknown_frame heard ∷ [])
         × EndsSending ended (L.faults link.old) (L.faults link.new)
         × Carried (L.traffic link.old) (L.traffic link.new) [] []) }
     ensures marks { L.marks link.new ≡ L.marks link.old }
 {
-    let number = given.number;
-    match hall.answer(kind, number, given.allowed) {
+    let given = heard.given();
+    match hall.answer(kind, heard) {
         Ok(()) => Ok(()),
         Err(_) => {
+            let number = given.number;
             let message = Message::UnknownNumber { number };
             match send(link, frame, given.sequence, message) {
                 Ok(()) => Ok(()),

@@ -1,7 +1,7 @@
 -- What went over a link in calls one after the other.
 use Rattle.std.proofs.Common.{◌≡◌, ◌<◌, ℕ, List, [], ◌++◌, Bool, true, false, ◌&&◌, ◌||◌, ltb, eqb, Some, Ok, refl, sym, ap, ◌∙◌, subst, append_assoc, append-nil, arith}
 use Rattle.std.proofs.lemmas.Bool.Decides.{nat_tests}
-use Rattle.link_ports.specs.Told.{KeepsTold, ChangesTold}
+use Rattle.link_ports.specs.Told.{ChangesTold, KeepsTold}
 use Rattle.link_ports.specs.Traffic.{Traffic, with_received, with_sent}
 use Rattle.link_ports.specs.LinkMarks.{LinkMarks, marks_after_receive}
 use Rattle.agent_runs.specs.LinkSeen.{LinkSeen, with_end, Carries}
@@ -71,6 +71,22 @@ pub carries-received : (bytes : List ℕ) (found : Bool) (link after : LinkSeen)
 carries-received bytes found link after received marks = record {
   traffic = λ before told. received before told ∙ ap Some (none_sent bytes before);
   marks = marks;
+}
+
+-- bytes were sent
+pub carries-sent : (bytes : List ℕ) (link after : LinkSeen) → ChangesTold link.traffic (with_sent bytes) after.traffic
+    → after.marks ≡ link.marks → Carries bytes [] false link after
+carries-sent bytes link after sent marks = record {
+  traffic = λ before told. sent before told ∙ ap Some (none_received (with_sent bytes before));
+  marks = marks ∙ sym (same_marks link.marks);
+}
+
+-- a call kept all as it was
+pub carries-kept : (link after : LinkSeen) → KeepsTold link.traffic after.traffic → after.marks ≡ link.marks
+    → Carries [] [] false link after
+carries-kept link after kept marks = record {
+  traffic = λ before told. kept before told ∙ ap Some (none_received before ∙ none_sent [] before);
+  marks = marks ∙ sym (same_marks link.marks);
 }
 
 -- bytes were received behind what went over the link before

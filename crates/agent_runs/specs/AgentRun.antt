@@ -1,16 +1,18 @@
 -- What `agent KIND allow` and `agent KIND deny` say, and how they end, over a dialler before and after.
-use Rattle.std.specs.Prelude.{◌≡◌, ◌⊎◌, ℕ, Bool}
+use Rattle.std.specs.Prelude.{◌≡◌, ◌⊎◌, ℕ, Bool, List}
 use Rattle.desk_ports.specs.Faults.{next_count}
 use Rattle.cynara_keys.specs.declared.results.Kind.{Kind}
 use Rattle.link_ports.specs.Told.{AppendsTold}
 use Rattle.link_ports.specs.LinkMarks.{fresh_marks}
 use Rattle.link_ports.specs.Traffic.{IsSilent}
 use Rattle.link_ports.specs.NetCounts.{count_after_give_back}
+use Rattle.line_answers.specs.Answers.{taken_text}
+use Rattle.wire_fields.specs.declared.messages.Framed.{Framed}
 use Rattle.run_endings.specs.Saying.{Said, silence}
 use Rattle.run_endings.specs.declared.endings.Ending.{Ending}
-use Rattle.run_endings.specs.declared.endings.Ending.TheVariants.{Memory, Sink, Net}
+use Rattle.run_endings.specs.declared.endings.Ending.TheVariants.{Done, Memory, Sink, Net, Reply}
 use Rattle.agent_runs.specs.LinkSeen.{LinkSeen, DialSeen}
-use Rattle.agent_runs.specs.AgentTalk.{Serves}
+use Rattle.agent_runs.specs.AgentTalk.{lines, GoesOn, Serves}
 
 -- how a run ends whose dial fails, and what it does to the dialler's count
 abbrev pub DialFails : Ending → ℕ → ℕ → Type 0
@@ -47,3 +49,22 @@ DialCounts Net before after = after ≡ next_count before
 DialCounts Memory before after = after ≡ before
 DialCounts Sink before after = after ≡ before
 DialCounts ending before after = (after ≡ before) ⊎ (after ≡ next_count before)
+
+-- ---- a run of which no call of the sink fails
+
+-- the lines of the questions that came, all of them
+abbrev pub AreLines : List ℕ → Type 0
+AreLines answers = (messages : List Framed) × GoesOn messages × (answers ≡ lines messages)
+
+-- How a run then ends that wrote these answers, and what it did to the dialler's count. That rises where a call of the net
+-- failed, and also where the service ended the connection, since the link is given back. So where it stays, the kind is taken,
+-- or what the service sent is a bad reply, or memory ran out.
+abbrev pub CompletesAgent : Ending → List ℕ → ℕ → ℕ → Type 0
+-- the service ended the connection between two messages, or it said that the kind is taken
+CompletesAgent Done answers net net_after =
+    (AreLines answers × (net_after ≡ next_count net))
+    ⊎ ((kind : Kind) × (answers ≡ taken_text kind.0) × (net_after ≡ net))
+CompletesAgent Reply answers net net_after = AreLines answers × ((net_after ≡ net) ⊎ (net_after ≡ next_count net))
+CompletesAgent Net answers net net_after = AreLines answers × (net_after ≡ next_count net)
+CompletesAgent Memory answers net net_after = net_after ≡ net
+CompletesAgent ending answers net net_after = ⊥

@@ -1,3 +1,4 @@
 pub mod Hearing
 pub mod Turns
+pub mod Ends
 pub mod Dialling

@@ -1,10 +1,12 @@
 // `agent KIND allow` and `agent KIND deny`.
-ghost use Rattle.std.specs.Prelude.{◌≡◌};
+ghost use Rattle.std.specs.Prelude.{◌≡◌, ℕ, List};
+ghost use Rattle.desk_ports.specs.Content.{Appended};
 ghost use Rattle.desk_ports.specs.Faults.{next_count};
+ghost use Rattle.run_endings.specs.Ending.{Unraised};
 ghost use Rattle.run_endings.specs.Outside.{sink_seen};
 ghost use Rattle.run_endings.specs.Saying.{Said, WritesAnswers};
 ghost use Rattle.agent_runs.specs.LinkSeen.{link_seen, dial_seen};
-ghost use Rattle.agent_runs.specs.AgentRun.{RunsAgent, DialCounts};
+ghost use Rattle.agent_runs.specs.AgentRun.{RunsAgent, DialCounts, CompletesAgent};
 ghost use Rattle.agent_runs.specs.parts.Dialling.{ServesDialled};
 
 use crate::agent_client;
@@ -31,6 +33,9 @@ pub fn run_agent<R: Wait, N: Dial, K: Sink>(
         × WritesAnswers result said (sink_seen K.taken K.faults sink.old) (sink_seen K.taken K.faults sink.new) }
     ensures dials { N.dials dial.new ≡ next_count (N.dials dial.old) }
     ensures count { DialCounts result (N.faults dial.old) (N.faults dial.new) }
+    ensures completes { Unraised (K.faults sink.old) (K.faults sink.new)
+        → (answers : List ℕ) × Appended (K.taken sink.old) answers (K.taken sink.new)
+        × CompletesAgent result answers (N.faults dial.old) (N.faults dial.new) }
 {
     match dial.dial(DoorKind::Agent) {
         Ok(link) => serve(rt, alloc, kind, allowed, link, dial, sink),

@@ -1,40 +1,81 @@
 // What an agent does with one message.
-ghost use Rattle.std.specs.Prelude.{◌≡◌, ◌≤◌, length};
+ghost use Rattle.std.specs.Prelude.{ℕ};
 ghost use Rattle.run_endings.specs.Outside.{sink_seen};
 ghost use Rattle.line_answers.specs.Answers.{answer_text};
-ghost use Rattle.wire_reading.specs.Frame.{body, spelling, with_sequence};
-ghost use Rattle.wire_fields.specs.declared.messages.Message.TheVariants.{AgentAnswer};
 ghost use Rattle.agent_runs.specs.LinkSeen.{link_seen};
-ghost use Rattle.agent_runs.specs.parts.Turns.{WritesLine, SendsFrame, WritesAndSends, Follows};
+ghost use Rattle.agent_runs.specs.AgentTalk.{line_for};
+ghost use Rattle.agent_runs.specs.parts.Hearing.{IsPut};
+ghost use Rattle.agent_runs.specs.parts.Turns.{WritesLine, Sends, Answers, Follows};
 
-use crate::reply_notes::note_misplaced;
+use client_core::{AgentMachine, Step};
 use desk_ports::{Bytes, Failed, Sink, write_all};
 use line_answers::{LineAnswer, print};
 use link_ports::Link;
 use run_endings::Ending;
-use wire_messages::{EncodeRefusal, Framed, Message, encode_message_into};
+use wire_messages::Message;
 
-/// Room for a line and for a frame, used again for each.
-#[derive(Drop)]
-pub(crate) struct Room {
-    pub line: Bytes,
-    pub frame: Bytes,
-}
-
-/// Follows a message to a registered agent: of a question the line is written, and then this answer is sent. Nothing follows
-/// where a number is unknown or a question was withdrawn. Refuses, with `Reply`, a message that may not come there.
+/// Follows a message that the machine gave: its line is written, if it has one, and then a question has this answer sent.
+/// Nothing follows where a number is unknown or a question was withdrawn. Where the kind is taken the run is done.
 pub(crate) fn follow<L: Link, K: Sink>(
-    room: &mut Room,
+    machine: &mut AgentMachine,
+    room: &mut Bytes,
     allowed: bool,
-    framed: &Framed,
+    message: &Message,
     link: &mut L,
     sink: &mut K,
 ) -> Result<(), Ending>
-    ensures { Follows allowed framed.now result (link_seen L.Link link.old)
+    ensures { (sequence : ℕ) → IsPut message.now sequence machine.old.stage
+        → Follows allowed sequence message.now result machine.new (link_seen L.Link link.old)
         (link_seen L.Link link.new) (sink_seen K.taken K.faults sink.old)
         (sink_seen K.taken K.faults sink.new) }
 {
-    match &framed.message {
+    match write_of(room, message, sink) {
+        Ok(()) => answer(machine, allowed, message, link),
+        Err(ending) => Err(ending),
+    }
+}
+
+// Sends this answer, where the message is a question.
+fn answer<L: Link>(
+    machine: &mut AgentMachine,
+    allowed: bool,
+    message: &Message,
+    link: &mut L,
+) -> Result<(), Ending>
+    ensures { (sequence : ℕ) → IsPut message.now sequence machine.old.stage
+        → Answers allowed sequence message.now result machine.new (link_seen L.Link link.old)
+        (link_seen L.Link link.new) }
+{
+    match message {
+        Message::AgentQuestion { number, .. } => {
+            let step = machine.answer(*number, allowed);
+            send(step, machine, link)
+        }
+        Message::KindTaken { .. } => Err(Ending::Done),
+        _ => Ok(()),
+    }
+}
+
+/// Sends the frame of the machine, where this is what it answered. Else no memory was found for the frame.
+pub(crate) fn send<L: Link>(step: Step, machine: &AgentMachine, link: &mut L) -> Result<(), Ending>
+    ensures { Sends step machine.now.frame result (link_seen L.Link link.old)
+        (link_seen L.Link link.new) }
+{
+    match step {
+        Step::Send => match link.send(machine.frame()) {
+            Ok(()) => Ok(()),
+            Err(Failed) => Err(Ending::Net),
+        },
+        _ => Err(Ending::Memory),
+    }
+}
+
+// Writes the line of a message, if it has one.
+fn write_of<K: Sink>(room: &mut Bytes, message: &Message, sink: &mut K) -> Result<(), Ending>
+    ensures { WritesLine (line_for message.now) result (sink_seen K.taken K.faults sink.old)
+        (sink_seen K.taken K.faults sink.new) }
+{
+    match message {
         Message::AgentQuestion {
             number,
             question,
@@ -48,60 +89,17 @@ pub(crate) fn follow<L: Link, K: Sink>(
                 kind: result.kind(),
                 metadata: result.metadata().as_slice(),
             };
-            answer(room, &line, framed.sequence, *number, allowed, link, sink)
+            write_line(room, &line, sink)
         }
-        Message::UnknownNumber { .. } => Ok(()),
-        Message::AgentWithdrawn { .. } => Ok(()),
-        _ => {
-            note_misplaced(sink);
-            Err(Ending::Reply)
+        Message::KindTaken { kind } => {
+            write_line(room, &LineAnswer::KindTaken { kind: *kind }, sink)
         }
+        _ => Ok(()),
     }
 }
 
-// Writes the line of a question, and then sends the answer to its number.
-fn answer<L: Link, K: Sink>(
-    room: &mut Room,
-    line: &LineAnswer<'_>,
-    sequence: u16,
-    number: u32,
-    allowed: bool,
-    link: &mut L,
-    sink: &mut K,
-) -> Result<(), Ending>
-    ensures { WritesAndSends (answer_text line.now) (spelling (with_sequence sequence (AgentAnswer number allowed))) result
-        (link_seen L.Link link.old) (link_seen L.Link link.new)
-        (sink_seen K.taken K.faults sink.old) (sink_seen K.taken K.faults sink.new) }
-{
-    match write_line(&mut room.line, line, sink) {
-        Ok(()) => send_answer(&mut room.frame, sequence, number, allowed, link),
-        Err(ending) => Err(ending),
-    }
-}
-
-fn send_answer<L: Link>(
-    room: &mut Bytes,
-    sequence: u16,
-    number: u32,
-    allowed: bool,
-    link: &mut L,
-) -> Result<(), Ending>
-    ensures { SendsFrame (spelling (with_sequence sequence (AgentAnswer number allowed))) result
-        (link_seen L.Link link.old) (link_seen L.Link link.new) }
-{
-    let message = Message::AgentAnswer { number, allowed };
-    let sent = send_message(room, sequence, &message, link);
-    // Handed on by value, it is not gone through variant by variant here.
-    drop(message);
-    sent
-}
-
-/// Prints a line into the room in place of what it held, and has the sink take it.
-pub(crate) fn write_line<K: Sink>(
-    room: &mut Bytes,
-    line: &LineAnswer<'_>,
-    sink: &mut K,
-) -> Result<(), Ending>
+// Prints a line into the room in place of what it held, and has the sink take it.
+fn write_line<K: Sink>(room: &mut Bytes, line: &LineAnswer<'_>, sink: &mut K) -> Result<(), Ending>
     ensures { WritesLine (answer_text line.now) result (sink_seen K.taken K.faults sink.old)
         (sink_seen K.taken K.faults sink.new) }
 {
@@ -112,26 +110,5 @@ pub(crate) fn write_line<K: Sink>(
             Err(Failed) => Err(Ending::Sink),
         },
         Err(_) => Err(Ending::Memory),
-    }
-}
-
-/// Spells a message into the room in place of what it held, and sends the frame.
-pub(crate) fn send_message<L: Link>(
-    room: &mut Bytes,
-    sequence: u16,
-    message: &Message,
-    link: &mut L,
-) -> Result<(), Ending>
-    requires short { length (body (with_sequence sequence message.now)) ≤ 1048576 }
-    ensures { SendsFrame (spelling (with_sequence sequence message.now)) result
-        (link_seen L.Link link.old) (link_seen L.Link link.new) }
-{
-    match encode_message_into(room, sequence, message) {
-        Ok(()) => match link.send(room.as_slice()) {
-            Ok(()) => Ok(()),
-            Err(Failed) => Err(Ending::Net),
-        },
-        Err(EncodeRefusal::TooLong(_)) => unreachable!(),
-        Err(EncodeRefusal::Memory(_)) => Err(Ending::Memory),
     }
 }

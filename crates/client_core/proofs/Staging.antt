@@ -19,6 +19,7 @@ use Rattle.client_core.specs.Agent as agent_does
 use Rattle.cynara_keys.specs.declared.results.Kind.{Kind}
 use Rattle.client_core.specs.declared.stages.Open.{Open}
 use Rattle.client_core.specs.declared.stages.AgentStage.{AgentStage}
+use Rattle.client_core.specs.declared.stages.AgentStage.TheVariants as agent_stage
 use Rattle.client_core.specs.Admin as admin_does
 use Rattle.client_core.specs.AdminReplies.{next_of, is_row, is_last, is_list_row, is_state_part, is_agent_here, IsRow, IsLast, IsWrong}
 use Rattle.client_core.specs.declared.ears.Piece.{Piece}
@@ -193,6 +194,37 @@ module _ (kind : Kind) (frame : List ℕ) (s t : AgentStage) (answer : Step) (ne
     pub same_next : (ear : Listening) (bytes : List ℕ) → agent_does.HearsNext asked ear bytes answer (agent kind frame s) new
         → agent_does.HearsNext asked ear bytes answer (agent kind frame t) new
     same_next ear bytes d = (d.0, d.1, next_hears d.0 d.2)
+
+-- what an agent hears of a piece: the message goes on, it is whole, or it is wrong
+module _ {X : Type 0} (ear : Listening) (bytes : List ℕ) (answer : Step) (old new : Agent)
+    (bad : (refusal : WireRefusal) → BeginsWrong ear.side (ear.bytes ++ bytes) refusal → answer ≡ step.Over (fault_by refusal)
+    → new ≡ agent_does.cut old → X) where
+  -- the first message
+  module _ (more : (after : Listening) → after ≡ record ear { bytes = ear.bytes ++ bytes } → IsOpen ear.side (ear.bytes ++ bytes)
+      → answer ≡ step.Wait → new ≡ record old { stage = agent_stage.Registering after } → X)
+      (whole : (framed : Framed) → Hears ear.side (ear.bytes ++ bytes) (framed ∷ []) []
+      → agent_does.Begins framed.message answer old new → X) where
+    first_at : (came : Piece) → HearsPiece came ear bytes → agent_does.hears_first came answer old new → X
+    first_at (piece.More after) heard d = more after heard.0 heard.1 d.0 d.1
+    first_at (piece.Whole framed) heard d = whole framed heard d
+    first_at (piece.Wrong refusal) heard d = bad refusal heard d.0 d.1
+
+    pub agent_by_first : agent_does.HearsFirst ear bytes answer old new → X
+    agent_by_first d = first_at d.0 d.1 d.2
+
+  -- a further one
+  module _ (asked : Option Open)
+      (more : (after : Listening) → after ≡ record ear { bytes = ear.bytes ++ bytes } → IsOpen ear.side (ear.bytes ++ bytes)
+      → answer ≡ step.Wait → new ≡ record old { stage = agent_stage.Listening asked after } → X)
+      (whole : (framed : Framed) → Hears ear.side (ear.bytes ++ bytes) (framed ∷ []) []
+      → agent_does.Turns framed asked answer old new → X) where
+    next_at : (came : Piece) → HearsPiece came ear bytes → agent_does.hears_next came asked answer old new → X
+    next_at (piece.More after) heard d = more after heard.0 heard.1 d.0 d.1
+    next_at (piece.Whole framed) heard d = whole framed heard d
+    next_at (piece.Wrong refusal) heard d = bad refusal heard d.0 d.1
+
+    pub agent_by_next : agent_does.HearsNext asked ear bytes answer old new → X
+    agent_by_next d = next_at d.0 d.1 d.2
 
 -- ---- where more bytes are waited for
 

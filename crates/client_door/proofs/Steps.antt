@@ -127,6 +127,16 @@ reseated start now seat desk Has waiting taken same goes_on read_now s =
     goes_on_more first then last (more, is) (others, after) =
         (more ++ others, after ∙ (ap (λ list. list ++ others) is ∙ append_assoc first more others))
 
+-- the same checks were answered
+pub reseated_all : (start now : ClientSide) (seat : SeatState) (desk : DeskState) (Has : List ℕ → List Framed → Type 0)
+    (waiting : List ℕ) (taken : List Check)
+    → (same : seat ≡ record now.seat { seen = seat.seen }) → (goes_on : GoesOn now.seat.seen seat.seen) → (read_now : IsReadNow desk seat)
+    → (s : StandsBy start now Has waiting taken)
+    → (reseated start now seat desk Has waiting taken same goes_on read_now s).sent
+    ++ (reseated start now seat desk Has waiting taken same goes_on read_now s).unsent ≡ s.sent ++ s.unsent
+unfolding reseated
+reseated_all start now seat desk Has waiting taken same goes_on read_now s = refl
+
 -- ---- a check that was taken is answered
 
 pub answered_with : (start now : ClientSide) (tally : Tally) (calls : Option (List HallCall)) (recording : Option Recording)
@@ -191,6 +201,21 @@ answered_by_policies start now recording Has waiting frame after check desk repl
     refl (calls_same now.calls)
     (subst (λ (list : List AskMade). length list ≤ 1) (sym (append-nil (calls_for s.unsent))) s.few)
     noted (put ∙ ap (λ bytes. waiting ++ bytes) spelled)
+
+-- that one and no other
+pub answered_by_policies_all : (start now : ClientSide) (recording : Option Recording) (Has : List ℕ → List Framed → Type 0)
+    (waiting frame after : List ℕ)
+    (check : Check) (desk : DeskState) (reply : Reply) → (now_read : IsReadNow desk now.seat) → (is : reading desk check ≡ IsReady reply)
+    → (spelled : frame ≡ spelling (with_sequence check.sequence (message_of reply)))
+    → (noted : Notes now.recording (judged_by (cause_at desk check.question) check.question reply) recording)
+    → (put : after ≡ waiting ++ frame)
+    → (s : StandsBy start now Has waiting (check ∷ []))
+    → (answered_by_policies start now recording Has waiting frame after check desk reply now_read is spelled noted put s).sent
+    ++ (answered_by_policies start now recording Has waiting frame after check desk reply now_read is spelled noted put s).unsent
+    ≡ (s.sent ++ s.unsent) ++ record { check = check; desk = desk; call = None; reply = reply } ∷ []
+unfolding answered_by_policies answered_with
+answered_by_policies_all start now recording Has waiting frame after check desk reply now_read is spelled noted put s =
+    sym (append_assoc s.sent s.unsent (record { check = check; desk = desk; call = None; reply = reply } ∷ []))
 
 -- ---- replies are sent
 
@@ -360,6 +385,14 @@ takes_front start now ahead behind waiting check first s =
     subst (λ list. Hears AtClient s.received list ahead) (append-nil (frames_of (s.sent ++ s.unsent))) s.heard in
     heard_so start now (HeardUpTo ahead) (HeardUpTo behind) waiting [] (check ∷ []) s
     (hears_then AtClient s.received (frames_of (s.sent ++ s.unsent)) ahead (framed_of check ∷ []) behind heard (behind, first, refl))
+
+-- none is answered by it
+pub takes_front_all : (start now : ClientSide) (ahead behind waiting : List ℕ) (check : Check)
+    → (first : first_of AtClient ahead ≡ Whole (framed_of check) behind) → (s : Meets start now ahead waiting)
+    → (takes_front start now ahead behind waiting check first s).sent ++ (takes_front start now ahead behind waiting check first s).unsent
+    ≡ s.sent ++ s.unsent
+unfolding takes_front heard_so
+takes_front_all start now ahead behind waiting check first s = refl
 
 -- what is not read yet is heard by a feeder that has begun no frame
 pub hears_rest : (start now : ClientSide) (feeder fed : Feeding) (ahead waiting : List ℕ) → IsClean feeder → HearsMore ahead feeder fed

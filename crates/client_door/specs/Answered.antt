@@ -68,7 +68,7 @@ after_asks (call ∷ calls) tally = after_asks calls (after_ask call tally)
 abbrev pub StandsIn : DeskState → List DeskState → Type 0
 StandsIn desk seen = (front : List DeskState) × (back : List DeskState) × (seen ≡ front ++ desk ∷ back)
 
--- Each was read at a state of the list, which might be read behind this commit, and that of the check before, while the last
+-- Each was read at a state of the list, which is not below this commit, nor below that of the check before, while the last
 -- of the list is published.
 abbrev pub AreReadIn : List DeskState → ℕ → List Answered → Type 0
 AreReadIn seen low [] = Unit {0}

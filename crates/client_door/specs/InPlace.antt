@@ -1,17 +1,12 @@
 -- A check that is read where it stands, in the piece that was received.
-use Rattle.std.specs.Prelude.{◌≡◌, ◌==◌, ◌≤◌, ℕ, List, ◌++◌}
-use Rattle.bucket_eval.specs.declared.answers.Cause.{Cause}
+use Rattle.std.specs.Prelude.{◌≡◌, ◌==◌, ℕ, List, ◌++◌}
 use Rattle.bucket_eval.specs.declared.answers.Verdict.{Verdict}
-use Rattle.desk_state.specs.DeskState.{DeskState}
-use Rattle.live_desk.specs.History.{IsLast, Rises}
-use Rattle.live_desk.specs.Seat.{SeatState}
 use Rattle.desk_world.specs.declared.links.Reading.{Reading}
 use Rattle.desk_world.specs.declared.links.Reading.TheVariants.{Ready}
 use Rattle.desk_world.specs.declared.replies.Reply.TheVariants.{Judged as IsJudged}
 use Rattle.wire_reading.specs.Frame.{spelling, with_sequence}
 use Rattle.wire_reading.specs.declared.lent_checks.LentCheck.{LentCheck}
 use Rattle.client_door.specs.Check.{message_of}
-use Rattle.client_door.specs.Reading.{reading, cause_at}
 use Rattle.client_door.specs.declared.checks.Check.{Check}
 use Rattle.client_door.specs.declared.judging.Ruling.{Ruling}
 use Rattle.client_door.specs.declared.judging.Ruling.TheVariants.{Ruled, Left, Memory}
@@ -34,12 +29,3 @@ Rules sequence seen old new Memory = new ≡ old
 abbrev pub replies_of : Ruling → ℕ
 replies_of (Ruled commit allowed) = 1
 replies_of other = 0
-
--- It was read at the last state that the seat has seen, whose commit is not below the seat's note; and the cause there is told.
-abbrev pub RulesAtLast : Check → SeatState → List ℕ → List ℕ → Ruling → (Cause → Type 0) → Type 0
-RulesAtLast check seat old new ruling Tells = (desk : DeskState)
-    × IsLast seat.seen desk
-    × Rises seat.seen
-    × (seat.note ≤ desk.commit)
-    × Rules check.sequence (reading desk check) old new ruling
-    × Tells (cause_at desk check.question)

@@ -8,7 +8,7 @@ use Rattle.desk_state.specs.DeskState.{DeskState}
 use Rattle.desk_world.specs.Links.{may_read}
 use Rattle.desk_world.specs.declared.links.Reading.TheVariants.{Due}
 use Rattle.live_desk.specs.History.{GoesOn, Rises, last_commit}
-use Rattle.live_desk.specs.Seat.{SeatState, with_note}
+use Rattle.live_desk.specs.Seat.{SeatState, EntersAt}
 use Rattle.live_roll.specs.declared.answers.Left.{Left}
 use Rattle.live_roll.specs.declared.answers.Left.TheVariants.{Still, Hung as LeftHung, Stopped as LeftStopped}
 use Rattle.live_roll.specs.declared.answers.Stopped.{Stopped as IsStopped}
@@ -171,7 +171,8 @@ pub record IsIdle (start now : ClientSide) : Type 0 where
   pub recording : now.recording ≡ start.recording
   pub carried : Carried start.traffic now.traffic [] []
 
--- the connection entered at this commit, was served, and left
+-- The connection entered at this commit, was served, and left. What its seat then knew of the roll's events ends with this entry, and
+-- names no disconnect for a later commit.
 pub record Served (result : Ended) (start now : ClientSide) : Type 0 where
   pub entered : ℕ
   pub inner : Ended
@@ -180,7 +181,7 @@ pub record Served (result : Ended) (start now : ClientSide) : Type 0 where
   pub first : ClientSide
   pub last : ClientSide
   pub entry : first.tally ≡ after_enter (Ok entered) start.tally
-  pub told : first.seat ≡ with_note entered start.seat
+  pub told : EntersAt entered start.seat first.seat
   pub told_calls : first.calls ≡ start.calls
   pub opened : Carried start.traffic first.traffic [] []
   pub marks : first.marks ≡ with_end_taken start.marks

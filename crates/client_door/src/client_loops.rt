@@ -14,10 +14,10 @@ use server_hall::Hall;
 use std::alloc::Global;
 use std::sync::Wait;
 
-/// Serves one connection of a client: it enters the hall in the place of the seat, each check is answered in turn, and it
-/// leaves. The replies to checks that came together are sent together. It passes the gate once it has entered, and once for
-/// each reply that was sent. It may wait.
-pub fn client_loop<R: Wait, J: Naming, A: Hall, L: Link<End = A::End>, G: Gate>(
+/// Serves one connection of a client: it enters the hall in the place of the seat, which then knows what happened in the
+/// roll up to this entry, each check is answered in turn, and it leaves. The replies to checks that came together are
+/// sent together. It passes the gate once it has entered, and once for each reply that was sent. It may wait.
+pub fn client_loop<R: Wait, J: Naming, A: Hall<List = J>, L: Link<End = A::End>, G: Gate>(
     rt: &R,
     alloc: Global,
     seat: &mut Seat<J>,
@@ -35,7 +35,14 @@ pub fn client_loop<R: Wait, J: Naming, A: Hall, L: Link<End = A::End>, G: Gate>(
 
 /// The same, and each check that the policies or an agent decided is recorded once its reply was sent: each once, in their
 /// order. Where one cannot be noted for want of memory, the connection ends.
-pub fn recorded_loop<R: Wait, J: Naming, A: Hall, L: Link<End = A::End>, G: Gate, M: Records>(
+pub fn recorded_loop<
+    R: Wait,
+    J: Naming,
+    A: Hall<List = J>,
+    L: Link<End = A::End>,
+    G: Gate,
+    M: Records,
+>(
     rt: &R,
     alloc: Global,
     seat: &mut Seat<J>,

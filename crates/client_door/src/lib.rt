@@ -1,8 +1,9 @@
 //! The door for clients: the checks that come over a connection, each answered by the policies of a published state, or by
 //! an agent to which they leave it.
 //!
-//! A check is read at the last state that its seat has then seen. Where the policies leave it to an agent, the question is
-//! put to the agent through the hall, and the reply is what that gives, for this very question.
+//! A check is read at the last state that its seat has then seen. The whole checks at the front of a piece that was
+//! received are read at one such state. Where the policies leave a check to an agent, the question is put to the agent
+//! through the hall, and the reply is what that gives, for this very question.
 #![tactic(auto)]
 
 mod agent_replies;
@@ -15,6 +16,7 @@ mod judging;
 mod keeping;
 mod laws;
 mod outboxes;
+mod pieces;
 mod readings;
 mod recording;
 mod spelling;

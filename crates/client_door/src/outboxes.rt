@@ -2,37 +2,25 @@ ghost use Rattle.std.specs.Prelude.{◌≡◌, ◌++◌, [], MatchResult, OnOk, 
 ghost use Rattle.desk_ports.specs.Faults.{next_count};
 ghost use Rattle.link_ports.specs.Told.{ChangesTold};
 ghost use Rattle.client_door.specs.Recording.{Leads, with_all_recorded};
-ghost use Rattle.client_door.specs.InPlace.{check_read, Rules};
-ghost use Rattle.client_door.specs.Reading.{cause_at, reading};
-ghost use Rattle.client_door.specs.parts.Talk.{IsReadNow};
-ghost use Rattle.desk_state.specs.DeskState.{DeskState};
-ghost use Rattle.live_desk.specs.History.{GoesOn};
+ghost use Rattle.client_door.specs.InPlace.{Rules};
+ghost use Rattle.bucket_eval.specs.Lent.{outcome_lent};
+ghost use Rattle.desk_world.specs.Links.{reading_of};
 ghost use Rattle.door_frames.specs.Carried.{Carried};
 ghost use Rattle.door_frames.specs.declared.endings.Ended.TheVariants.{LinkFault};
 
-use crate::judging::{KeptJudged, Ruling, judge_check};
-use crate::{Keeps, Records};
-use core::mem::replace;
+use crate::Records;
+use crate::judging::{Ruling, judge_check};
 use desk_ports::Bytes;
 use door_frames::Ended;
 use link_ports::{Gate, GateStep, Link};
-use live_desk::{Naming, Seat};
+use live_desk::BorrowedVerdict;
 use std::alloc::{AllocError, Global};
 use std::marker::Model;
-use std::sync::Wait;
 use wire_messages::LentCheck;
-
-/// What the policies say of a check, and what is kept of the cause.
-#[derive(Drop)]
-pub(crate) struct KeptRuling<K: Keeps> {
-    pub ruling: Ruling,
-    pub kept: K,
-}
 
 /// Replies that wait to be sent together. Contracts see their bytes.
 #[derive(Drop)]
 pub(crate) struct Outbox {
-    alloc: Global,
     bytes: Bytes,
     replies: u32,
 }
@@ -51,35 +39,20 @@ impl Outbox {
         ensures { result ≡ [] }
     {
         Outbox {
-            alloc,
             bytes: Bytes::new(alloc),
             replies: 0,
         }
     }
 
-    /// Puts the reply to a check that is read where it stands behind those that wait, if the policies judge it at the last
-    /// state that the seat has then seen. It may wait.
-    pub fn judge<R: Wait, J: Naming, K: Keeps>(
-        &mut self,
-        rt: &R,
-        seat: &mut Seat<J>,
-        check: &LentCheck<'_>,
-    ) -> KeptRuling<K>
-        ensures same { seat.new ≡ record seat.old { seen = seat.new.seen } }
-        ensures seen { GoesOn seat.old.seen seat.new.seen }
-        ensures read { (desk : DeskState) × IsReadNow desk seat.new
-            × Rules check.now.sequence (reading desk (check_read check.now)) self.old self.new result.ruling
-            × K.tells result.kept (cause_at desk check.now.question) }
+    /// Puts the reply to a check that is read where it stands behind those that wait, if this verdict of the policies decides
+    /// it.
+    pub fn judge(&mut self, check: &LentCheck<'_>, verdict: &BorrowedVerdict<'_>) -> Ruling
+        ensures { Rules check.now.sequence
+            (reading_of verdict.now.commit check.now.simple (outcome_lent verdict.now.answer)) self.old self.new result }
     {
-        let frames = replace(&mut self.bytes, Bytes::new(self.alloc));
-        let KeptJudged {
-            frames,
-            ruling,
-            kept,
-        } = judge_check(rt, seat, check, frames);
-        self.bytes = frames;
+        let ruling = judge_check(&mut self.bytes, check, verdict);
         self.replies = self.replies.saturating_add(ruling.replies());
-        KeptRuling { ruling, kept }
+        ruling
     }
 
     /// Puts a reply behind those that wait.

@@ -25,7 +25,7 @@ use Rattle.client_runs.specs.CheckRun.{IsCounted}
 
 -- ---- only where no reply came is the service out of reach
 
-abbrev IsReached : Result Checked ClientRefusal → Type 0
+abbrev pub IsReached : Result Checked ClientRefusal → Type 0
 IsReached (Err refusal.Unavailable) = ⊥
 IsReached answer = Unit {0}
 
@@ -42,10 +42,10 @@ said_reached (Message.AgentGone commit number) = either (ltb commit 0) _ _ tt tt
 said_reached (Message.AgentFull commit kind most) = either (ltb commit 0) _ _ tt tt
 said_reached message = tt
 
-reply_reached : (framed : Framed) → IsReached (reply_of 0 0 framed)
+pub reply_reached : (framed : Framed) → IsReached (reply_of 0 0 framed)
 reply_reached framed = either (eqb framed.sequence 0) _ _ (said_reached framed.message) tt
 
-refusal_reached : (fault : WireRefusal) → IsReached (Err (refusal_of fault))
+pub refusal_reached : (fault : WireRefusal) → IsReached (Err (refusal_of fault))
 refusal_reached (NoMemory error) = tt
 refusal_reached fault = tt
 
@@ -74,12 +74,12 @@ by_trouble true count = inr refl
 by_trouble false count = inl refl
 
 -- giving a link back counts one failure, or none
-left_faults : (marks : LinkMarks) (faults count : ℕ)
+pub left_faults : (marks : LinkMarks) (faults count : ℕ)
     → (count_after_give_back marks faults count ≡ count) ⊎ (count_after_give_back marks faults count ≡ next_count count)
 left_faults marks faults count = by_trouble (gave_trouble marks faults) count
 
 -- one failure more
-counted-more : (n count : ℕ) → next_count (counted n count) ≡ counted (suc n) count
+pub counted-more : (n count : ℕ) → next_count (counted n count) ≡ counted (suc n) count
 counted-more zero count = refl
 counted-more (suc n) count = counted-more n (next_count count)
 

@@ -1,12 +1,13 @@
 // `check` and `simple`.
 ghost use Rattle.std.specs.Prelude.{◌≡◌, true, false, None};
+ghost use Rattle.run_endings.specs.Ending.{Unraised};
 ghost use Rattle.run_endings.specs.Outside.{sink_seen};
 ghost use Rattle.run_endings.specs.Saying.{Said, WritesAnswers};
 ghost use Rattle.answer_cache.specs.Cache.{asked_in, empty_cache};
 ghost use Rattle.cynara_client.specs.State.{with_dial};
 ghost use Rattle.cynara_client.specs.Checking.{Checks};
 ghost use Rattle.client_runs.specs.AskedOnce.{first_frame, AsksOnce};
-ghost use Rattle.client_runs.specs.CheckRun.{EndsCheck, IsCounted, RunsCheck, question_of};
+ghost use Rattle.client_runs.specs.CheckRun.{CompletesCheck, EndsCheck, IsCounted, RunsCheck, question_of};
 ghost use Rattle.client_runs.specs.AnswerLine.{Says};
 
 use crate::answer_lines::answer_line;
@@ -34,6 +35,9 @@ pub fn run_check<N: Dial, K: Sink>(
         × WritesAnswers result said (sink_seen K.taken K.faults sink.old) (sink_seen K.taken K.faults sink.new) }
     ensures count { IsCounted result (N.faults dial.old) (N.faults dial.new) }
     ensures ends { EndsCheck result }
+    ensures completes { Unraised (N.faults dial.old) (N.faults dial.new) → Unraised (K.faults sink.old) (K.faults sink.new)
+        → (said : Said) × CompletesCheck N.Dial N.Link.Link asked.now false said result dial.old dial.new
+        × WritesAnswers result said (sink_seen K.taken K.faults sink.old) (sink_seen K.taken K.faults sink.new) }
 {
     run(alloc, asked, false, dial, sink)
 }
@@ -50,6 +54,9 @@ pub fn run_simple<N: Dial, K: Sink>(
         × WritesAnswers result said (sink_seen K.taken K.faults sink.old) (sink_seen K.taken K.faults sink.new) }
     ensures count { IsCounted result (N.faults dial.old) (N.faults dial.new) }
     ensures ends { EndsCheck result }
+    ensures completes { Unraised (N.faults dial.old) (N.faults dial.new) → Unraised (K.faults sink.old) (K.faults sink.new)
+        → (said : Said) × CompletesCheck N.Dial N.Link.Link asked.now true said result dial.old dial.new
+        × WritesAnswers result said (sink_seen K.taken K.faults sink.old) (sink_seen K.taken K.faults sink.new) }
 {
     run(alloc, asked, true, dial, sink)
 }
@@ -66,6 +73,9 @@ fn run<N: Dial, K: Sink>(
         × WritesAnswers result said (sink_seen K.taken K.faults sink.old) (sink_seen K.taken K.faults sink.new) }
     ensures count { IsCounted result (N.faults dial.old) (N.faults dial.new) }
     ensures ends { EndsCheck result }
+    ensures completes { Unraised (N.faults dial.old) (N.faults dial.new) → Unraised (K.faults sink.old) (K.faults sink.new)
+        → (said : Said) × CompletesCheck N.Dial N.Link.Link asked.now simple said result dial.old dial.new
+        × WritesAnswers result said (sink_seen K.taken K.faults sink.old) (sink_seen K.taken K.faults sink.new) }
 {
     let answer = answer_to(alloc, asked, simple, dial);
     say(alloc, &answer, sink)

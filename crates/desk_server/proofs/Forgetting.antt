@@ -5,10 +5,9 @@ use Rattle.link_ports.specs.LinkMarks.{LinkMarks}
 use Rattle.door_frames.specs.declared.endings.Ended.{Ended}
 use Rattle.client_door.specs.Serving.{ClientSide, Talks, IsIdle, Served, Serves}
 use Rattle.client_door.specs.Serving.Serves.{unbegun, refused, served}
-use Rattle.desk_server.specs.Visit.{Visit, InTurn, Works}
+use Rattle.desk_server.specs.Visit.{Visit, InTurn}
 use Rattle.desk_server.specs.Clients.{VisitsClients}
 use Rattle.desk_server.specs.Monitored.{Post, VisitsWatched}
-use Rattle.desk_server.specs.declared.workers.WorkerEnd.{WorkerEnd}
 
 -- ---- a connection
 
@@ -82,19 +81,9 @@ module _ {L : Type 0} (traffic : L → Option Traffic) (marks : L → LinkMarks)
       → VisitsClients traffic marks faults old.seat visit new.seat
   visit-untold old visit new (silent, (tally, calls, one)) = (silent, (tally, calls, serves-untold one.serves))
 
-  pub works-untold : (ends : WorkerEnd → List (Visit L) → Type 0) (end : WorkerEnd) (start now : Post)
-      (given given_now : Option (List L))
-      (count count_now : ℕ)
-      → Works (VisitsWatched traffic marks faults) ends marks faults end start now given given_now count count_now
-      → Works (VisitsClients traffic marks faults) ends marks faults end start.seat now.seat given given_now count
-      count_now
-  works-untold ends end start now given given_now count count_now works = record {
-    visits = works.visits;
-    fresh = works.fresh;
-    in_turn = along (λ (post : Post). post.seat) (VisitsWatched traffic marks faults)
-        (VisitsClients traffic marks faults) visit-untold
-        start works.visits now works.in_turn;
-    ending = works.ending;
-    given_back = works.given_back;
-    counted = works.counted;
-  }
+  -- all connections of a worker
+  pub visits-untold : (start : Post) (visits : List (Visit L)) (now : Post) → InTurn (VisitsWatched traffic marks faults) start visits now
+      → InTurn (VisitsClients traffic marks faults) start.seat visits now.seat
+  visits-untold start visits now in_turn =
+      along (λ (post : Post). post.seat) (VisitsWatched traffic marks faults) (VisitsClients traffic marks faults) visit-untold
+      start visits now in_turn

@@ -8,8 +8,7 @@ use Rattle.server_hall.specs.declared.calls.HallCall.{HallCall}
 use Rattle.door_frames.specs.declared.endings.Ended.{Ended}
 use Rattle.client_door.specs.Serving.{client_side}
 use Rattle.check_monitor.specs.Monitor.{RecorderState}
-use Rattle.client_door.specs.declared.judgements.Judgement.{Judgement}
-use Rattle.desk_server.specs.Monitoring.{ServesMonitored, RecordsEach}
+use Rattle.desk_server.specs.Monitoring.{ServesMonitored}
 use Rattle.desk_server.specs.Visit.{Visit}
 
 -- what one connection leaves to the next: the seat, and the recorder
@@ -35,7 +34,3 @@ abbrev pub VisitsWatched : {L : Type 0} → (L → Option Traffic) → (L → Li
 VisitsWatched traffic marks faults post visit post_now =
     IsSilent (traffic visit.accepted)
     × ServesWatched traffic marks faults visit.ended post visit.accepted post_now visit.returned
-
--- A recorder, and what it is once some checks were recorded, each once and in turn.
-abbrev pub RecordsSome : RecorderState → RecorderState → Type 0
-RecordsSome old new = (judged : List Judgement) × RecordsEach old judged new

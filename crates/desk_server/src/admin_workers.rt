@@ -5,6 +5,7 @@ ghost use Rattle.live_desk.specs.History.{last_commit};
 ghost use Rattle.desk_server.specs.Visit.{Works, IsNotOver};
 ghost use Rattle.admin_door.specs.Serving.{Exchange};
 ghost use Rattle.admin_door.specs.Running.{RunsOver};
+ghost use Rattle.admin_door.specs.Hanging.{AreHung};
 ghost use Rattle.desk_server.specs.Administrators.{office_of, VisitsOffice, EndsOffice, EndsBehind, tally_behind};
 ghost use Rattle.desk_server.specs.parts.Turn.{TurnsOffice};
 
@@ -15,7 +16,7 @@ use desk_keeper::Keeper;
 use desk_ports::Disk;
 use door_frames::Ended;
 use link_ports::{Door, HangEnd, Link};
-use live_desk::{Naming, Publisher};
+use live_desk::{Event, Events, Front, Naming, Publisher};
 use live_roll::Roll;
 use server_hall::{Hall, QuestionDesk, StopNews};
 use std::alloc::Global;
@@ -24,7 +25,9 @@ use std::time::Clock;
 
 /// Serves connections of administrators, one after the other, until one of them has stopped the service, or it is told
 /// behind one that the service is stopped. Where its door accepts none it stops the service itself, by way of its own
-/// hall. What a stop at any moment may leave in the folder is told of the frames that came (`RunsOver`). It may wait.
+/// hall. What a stop at any moment may leave in the folder is told of the frames that came (`RunsOver`). Of each command
+/// that was answered as done a disconnect up to its commit stands in the front of the roll's log, which goes on with
+/// each (`AreHung`). It may wait.
 pub fn work_for_administrators<
     R: Wait + Clock,
     D: Disk,
@@ -39,8 +42,9 @@ pub fn work_for_administrators<
     alloc: Global,
     keeper: &mut Keeper<'_, D>,
     publisher: &mut Publisher<J>,
-    roll: &Mutex<Roll<H>>,
+    roll: &Mutex<Roll<H, J>>,
     questions: &QuestionDesk,
+    hangs: &mut Front<Event, Events<J>>,
     door: &mut E,
     hall: &mut A,
     notes: &T,
@@ -51,13 +55,13 @@ pub fn work_for_administrators<
         × Works (VisitsOffice L.traffic L.marks L.faults) (EndsOffice news.old news.new) L.marks L.faults result
         (office_of D.faults keeper.old publisher.old []) (office_of D.faults keeper.new publisher.new frames)
         (E.given_back door.old) (E.given_back door.new) (E.faults door.old) (E.faults door.new)
-        × RunsOver D.state D.moment D.left_since keeper.old keeper.new frames }
+        × RunsOver D.state D.moment D.left_since keeper.old keeper.new frames × AreHung hangs.new frames }
     ensures same_disk { IsSameDisk keeper.old keeper.new }
     ensures kind { E.kind door.new ≡ E.kind door.old }
     ensures stopped { A.tally hall.new ≡ tally_behind result (A.tally hall.old) }
 {
     let end = serve_administrators(
-        rt, alloc, keeper, publisher, roll, questions, door, notes, news,
+        rt, alloc, keeper, publisher, roll, questions, hangs, door, notes, news,
     );
     stop_behind(hall, end);
     end
@@ -87,8 +91,9 @@ fn serve_administrators<
     alloc: Global,
     keeper: &mut Keeper<'_, D>,
     publisher: &mut Publisher<J>,
-    roll: &Mutex<Roll<H>>,
+    roll: &Mutex<Roll<H, J>>,
     questions: &QuestionDesk,
+    hangs: &mut Front<Event, Events<J>>,
     door: &mut E,
     notes: &T,
     news: &mut StopNews,
@@ -98,13 +103,13 @@ fn serve_administrators<
         × Works (VisitsOffice L.traffic L.marks L.faults) (EndsOffice news.old news.new) L.marks L.faults result
         (office_of D.faults keeper.old publisher.old []) (office_of D.faults keeper.new publisher.new frames)
         (E.given_back door.old) (E.given_back door.new) (E.faults door.old) (E.faults door.new)
-        × RunsOver D.state D.moment D.left_since keeper.old keeper.new frames }
+        × RunsOver D.state D.moment D.left_since keeper.old keeper.new frames × AreHung hangs.new frames }
     ensures same_disk { IsSameDisk keeper.old keeper.new }
     ensures kind { E.kind door.new ≡ E.kind door.old }
 {
     for _ in rt.forever() {
         if let Err(end) = serve_next(
-            rt, alloc, keeper, publisher, roll, questions, door, notes, news,
+            rt, alloc, keeper, publisher, roll, questions, hangs, door, notes, news,
         ) {
             return end;
         }
@@ -126,16 +131,17 @@ fn serve_next<
     alloc: Global,
     keeper: &mut Keeper<'_, D>,
     publisher: &mut Publisher<J>,
-    roll: &Mutex<Roll<H>>,
+    roll: &Mutex<Roll<H, J>>,
     questions: &QuestionDesk,
+    hangs: &mut Front<Event, Events<J>>,
     door: &mut E,
     notes: &T,
     news: &mut StopNews,
 ) -> Result<(), WorkerEnd>
     requires behind { last_commit 0 publisher.old ≤ keeper.old.desk.commit }
     ensures worked { TurnsOffice D.faults D.state D.moment D.left_since L.traffic L.marks L.faults result
-        keeper.old publisher.old (E.given_back door.old) (E.faults door.old) news.old
-        keeper.new publisher.new (E.given_back door.new) (E.faults door.new) news.new }
+        keeper.old publisher.old (E.given_back door.old) (E.faults door.old) news.old hangs.old
+        keeper.new publisher.new (E.given_back door.new) (E.faults door.new) news.new hangs.new }
     ensures behind { last_commit 0 publisher.new ≤ keeper.new.desk.commit }
     ensures same_disk { IsSameDisk keeper.old keeper.new }
     ensures kind { E.kind door.new ≡ E.kind door.old }
@@ -145,7 +151,9 @@ fn serve_next<
         Err(end) => return Err(end),
     };
     let was_decided = keeper.is_decided();
-    let ended = serve_admin(rt, alloc, keeper, publisher, roll, questions, &mut link);
+    let ended = serve_admin(
+        rt, alloc, keeper, publisher, roll, questions, hangs, &mut link,
+    );
     note_store(notes, was_decided, keeper.is_decided());
     door.give_back(link);
     match end_behind(rt, questions, news, &ended) {

@@ -1,7 +1,9 @@
 // What a worker of clients does of each connection beside answering it.
-ghost use Rattle.std.specs.Prelude.{◌≡◌};
-ghost use Rattle.desk_server.specs.Visit.{Works, EndsWorking};
-ghost use Rattle.desk_server.specs.Clients.{VisitsClients};
+ghost use Rattle.std.specs.Prelude.{◌≡◌, ℕ, Option};
+ghost use Rattle.link_ports.specs.Traffic.{Traffic};
+ghost use Rattle.link_ports.specs.LinkMarks.{LinkMarks};
+ghost use Rattle.live_desk.specs.Seat.{SeatState};
+ghost use Rattle.desk_server.specs.Visit.{Visit, Works, EndsWorking};
 
 use crate::monitored_workers::work_for_monitored_clients;
 use crate::workers::{WorkerEnd, work_for_clients};
@@ -16,8 +18,17 @@ use std::time::Clock;
 
 /// What a worker of clients does of each connection beside answering it.
 pub trait ClientDuty: Drop {
-    /// What it may have become by the end of its worker's connections, where it was this before.
-    ghost goes: { Self → Self → Type 0 };
+    /// What its worker hands on from one connection to the next.
+    ghost State: { Type 0 };
+
+    /// That of a worker in the place of this seat.
+    ghost state: { SeatState → Self → State };
+
+    /// The seat in it.
+    ghost seat_of: { State → SeatState };
+
+    /// What serving a connection makes of it, over a link of which this is told.
+    ghost visits: { {L : Type 0} → (L → Option Traffic) → (L → LinkMarks) → (L → ℕ) → State → Visit L → State → Type 0 };
 
     /// Serves connections of clients, one after the other, as `work_for_clients` does. It may wait.
     fn work<R: Wait + Clock, H: HangEnd, L: Link<End = H>, D: Door<Link = L>, G: Gate, J: Naming>(
@@ -25,20 +36,18 @@ pub trait ClientDuty: Drop {
         rt: &R,
         alloc: Global,
         seat: &mut Seat<J>,
-        roll: &Mutex<Roll<H>>,
+        roll: &Mutex<Roll<H, J>>,
         questions: &QuestionDesk,
         door: &mut D,
         gate: &G,
         news: &mut StopNews,
     ) -> WorkerEnd
-        ensures worked { Works (VisitsClients L.traffic L.marks L.faults) (EndsWorking news.old news.new) L.marks
-            L.faults result
-            seat.old seat.new (D.given_back door.old) (D.given_back door.new) (D.faults door.old) (D.faults door.new) }
-        ensures goes { goes self.old self.new }
+        ensures worked { Works (visits L.traffic L.marks L.faults) (EndsWorking news.old news.new) L.marks L.faults result
+            (state seat.old self.old) (state seat.new self.new)
+            (D.given_back door.old) (D.given_back door.new) (D.faults door.old) (D.faults door.new) }
         ensures kind { D.kind door.new ≡ D.kind door.old };
 
-    /// There was no connection.
-    ghost stays: { (duty : Self) → goes duty duty };
+    ghost seat_is: { (seat : SeatState) (duty : Self) → seat_of (state seat duty) ≡ seat };
 }
 
 /// Nothing beside.
@@ -46,14 +55,24 @@ pub trait ClientDuty: Drop {
 pub struct Unrecorded;
 
 impl ClientDuty for Unrecorded {
-    ghost goes = { λ old new. Unit {0} };
+    ghost use Rattle.std.specs.Prelude.{refl};
+    ghost use Rattle.live_desk.specs.Seat.{SeatState};
+    ghost use Rattle.desk_server.specs.Clients.{VisitsClients};
+
+    ghost State = { SeatState };
+
+    ghost state = { λ seat duty. seat };
+
+    ghost seat_of = { λ seat. seat };
+
+    ghost visits = { VisitsClients };
 
     fn work<R: Wait + Clock, H: HangEnd, L: Link<End = H>, D: Door<Link = L>, G: Gate, J: Naming>(
         &mut self,
         rt: &R,
         alloc: Global,
         seat: &mut Seat<J>,
-        roll: &Mutex<Roll<H>>,
+        roll: &Mutex<Roll<H, J>>,
         questions: &QuestionDesk,
         door: &mut D,
         gate: &G,
@@ -62,22 +81,28 @@ impl ClientDuty for Unrecorded {
         work_for_clients(rt, alloc, seat, roll, questions, door, gate, news)
     }
 
-    ghost stays = { λ duty. tt };
+    ghost seat_is = { λ seat duty. refl };
 }
 
 /// Its checks are recorded.
 impl ClientDuty for Recorder {
-    ghost use Rattle.std.specs.Prelude.{[], refl};
-    ghost use Rattle.desk_server.specs.Monitored.{RecordsSome};
+    ghost use Rattle.std.specs.Prelude.{refl};
+    ghost use Rattle.desk_server.specs.Monitored.{Post, post_of, VisitsWatched};
 
-    ghost goes = { RecordsSome };
+    ghost State = { Post };
+
+    ghost state = { post_of };
+
+    ghost seat_of = { λ post. post.seat };
+
+    ghost visits = { VisitsWatched };
 
     fn work<R: Wait + Clock, H: HangEnd, L: Link<End = H>, D: Door<Link = L>, G: Gate, J: Naming>(
         &mut self,
         rt: &R,
         alloc: Global,
         seat: &mut Seat<J>,
-        roll: &Mutex<Roll<H>>,
+        roll: &Mutex<Roll<H, J>>,
         questions: &QuestionDesk,
         door: &mut D,
         gate: &G,
@@ -86,5 +111,5 @@ impl ClientDuty for Recorder {
         work_for_monitored_clients(rt, alloc, seat, roll, questions, door, gate, self, news)
     }
 
-    ghost stays = { λ duty. ([], refl) };
+    ghost seat_is = { λ seat duty. refl };
 }

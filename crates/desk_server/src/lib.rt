@@ -22,7 +22,10 @@ mod workers;
 
 pub use admin_workers::work_for_administrators;
 pub use duties::{ClientDuty, Unrecorded};
-pub use laws::{each_record_puts_or_misses, what_is_put_is_what_was_judged};
+pub use laws::{
+    each_record_puts_or_misses, watched_clients_are_served_as_others,
+    what_is_put_is_what_was_judged,
+};
 pub use monitored_workers::work_for_monitored_clients;
 pub use monitoring::serve_monitored;
 pub use notes::{Notes, Unheard};

@@ -25,7 +25,7 @@ pub fn serve_monitored<R: Wait + Clock, L: Link, G: Gate, J: Naming>(
     rt: &R,
     alloc: Global,
     seat: &mut Seat<J>,
-    roll: &Mutex<Roll<L::End>>,
+    roll: &Mutex<Roll<L::End, J>>,
     questions: &QuestionDesk,
     link: &mut L,
     gate: &G,
@@ -42,7 +42,7 @@ pub fn serve_monitored<R: Wait + Clock, L: Link, G: Gate, J: Naming>(
 }
 
 // The same over any hall.
-fn serve_noting<R: Wait + Clock, J: Naming, A: Hall, L: Link<End = A::End>, G: Gate>(
+fn serve_noting<R: Wait + Clock, J: Naming, A: Hall<List = J>, L: Link<End = A::End>, G: Gate>(
     rt: &R,
     alloc: Global,
     seat: &mut Seat<J>,

@@ -1,6 +1,6 @@
 ghost use Rattle.std.specs.Prelude.{◌≤◌, List, None, Option};
 ghost use Rattle.desk_keeper.specs.Keeper.{IsSameDisk};
-ghost use Rattle.live_desk.specs.History.{last_commit};
+ghost use Rattle.live_desk.specs.History.{last_commit, Rises};
 ghost use Rattle.server_hall.specs.Tally as counted;
 ghost use Rattle.server_hall.specs.declared.calls.HallCall as call;
 ghost use Rattle.client_door.specs.Serving.{client_side, Serves as ServesClient};
@@ -9,6 +9,7 @@ ghost use Rattle.admin_door.specs.Adding.{AddsSome};
 ghost use Rattle.admin_door.specs.Side.{side_of};
 ghost use Rattle.admin_door.specs.Serving.{talk_of, Serves as ServesAdmin};
 ghost use Rattle.admin_door.specs.Running.{RunsOver};
+ghost use Rattle.admin_door.specs.Hanging.{HangsOn};
 
 use admin_door::admin_loop;
 use agent_door::agent_loop;
@@ -17,7 +18,7 @@ use desk_keeper::Keeper;
 use desk_ports::Disk;
 use door_frames::Ended;
 use link_ports::{Gate, HangEnd, Link};
-use live_desk::{Naming, Publisher, Seat};
+use live_desk::{Event, Events, Front, Naming, Publisher, Seat};
 use live_roll::Roll;
 use server_hall::{Locked, QuestionDesk};
 use std::alloc::Global;
@@ -29,7 +30,7 @@ pub fn serve_client<R: Wait + Clock, L: Link, G: Gate, J: Naming>(
     rt: &R,
     alloc: Global,
     seat: &mut Seat<J>,
-    roll: &Mutex<Roll<L::End>>,
+    roll: &Mutex<Roll<L::End, J>>,
     questions: &QuestionDesk,
     link: &mut L,
     gate: &G,
@@ -43,10 +44,10 @@ pub fn serve_client<R: Wait + Clock, L: Link, G: Gate, J: Naming>(
 }
 
 /// Serves one connection of an agent, as `agent_loop` does. It may wait.
-pub fn serve_agent<R: Wait + Clock, H: HangEnd, L: Link>(
+pub fn serve_agent<R: Wait + Clock, H: HangEnd, L: Link, J: Naming>(
     rt: &R,
     alloc: Global,
-    roll: &Mutex<Roll<H>>,
+    roll: &Mutex<Roll<H, J>>,
     questions: &QuestionDesk,
     link: &mut L,
 ) -> Ended
@@ -64,8 +65,9 @@ pub fn serve_admin<R: Wait + Clock, D: Disk, H: HangEnd, L: Link, J: Naming>(
     alloc: Global,
     keeper: &mut Keeper<'_, D>,
     publisher: &mut Publisher<J>,
-    roll: &Mutex<Roll<H>>,
+    roll: &Mutex<Roll<H, J>>,
     questions: &QuestionDesk,
+    hangs: &mut Front<Event, Events<J>>,
     link: &mut L,
 ) -> Ended
     requires behind { last_commit 0 publisher.old ≤ keeper.old.desk.commit }
@@ -78,8 +80,10 @@ pub fn serve_admin<R: Wait + Clock, D: Disk, H: HangEnd, L: Link, J: Naming>(
         × AddsSome (side_of D.faults keeper.old publisher.old counted.no_calls None)
         (side_of D.faults keeper.new publisher.new tally None) }
     ensures behind { last_commit 0 publisher.new ≤ keeper.new.desk.commit }
+    ensures hangs { HangsOn publisher.old publisher.new hangs.old hangs.new }
+    ensures rising { Rises publisher.new }
     ensures same_disk { IsSameDisk keeper.old keeper.new }
 {
     let mut hall = Locked::new(rt, roll, questions);
-    admin_loop(rt, alloc, keeper, publisher, &mut hall, link)
+    admin_loop(rt, alloc, keeper, publisher, &mut hall, hangs, link)
 }

@@ -51,7 +51,7 @@ pub fn work_for_clients<
     rt: &R,
     alloc: Global,
     seat: &mut Seat<J>,
-    roll: &Mutex<Roll<H>>,
+    roll: &Mutex<Roll<H, J>>,
     questions: &QuestionDesk,
     door: &mut D,
     gate: &G,
@@ -82,7 +82,7 @@ fn serve_next_client<
     rt: &R,
     alloc: Global,
     seat: &mut Seat<J>,
-    roll: &Mutex<Roll<H>>,
+    roll: &Mutex<Roll<H, J>>,
     questions: &QuestionDesk,
     door: &mut D,
     gate: &G,
@@ -110,10 +110,10 @@ fn serve_next_client<
 }
 
 /// Serves connections of agents, one after the other. It ends as a worker of clients does. It may wait.
-pub fn work_for_agents<R: Wait + Clock, H: HangEnd, L: Link, D: Door<Link = L>>(
+pub fn work_for_agents<R: Wait + Clock, H: HangEnd, L: Link, D: Door<Link = L>, J: Naming>(
     rt: &R,
     alloc: Global,
-    roll: &Mutex<Roll<H>>,
+    roll: &Mutex<Roll<H, J>>,
     questions: &QuestionDesk,
     door: &mut D,
     news: &mut StopNews,
@@ -132,10 +132,10 @@ pub fn work_for_agents<R: Wait + Clock, H: HangEnd, L: Link, D: Door<Link = L>>(
 }
 
 // Serves the next agent, and says whether the worker ends behind it.
-fn serve_next_agent<R: Wait + Clock, H: HangEnd, L: Link, D: Door<Link = L>>(
+fn serve_next_agent<R: Wait + Clock, H: HangEnd, L: Link, D: Door<Link = L>, J: Naming>(
     rt: &R,
     alloc: Global,
-    roll: &Mutex<Roll<H>>,
+    roll: &Mutex<Roll<H, J>>,
     questions: &QuestionDesk,
     door: &mut D,
     news: &mut StopNews,

@@ -7,9 +7,10 @@ use mathlib.Core.List.{IsPrefix}
 use Rattle.cynara_keys.specs.Key.{Question}
 use Rattle.desk_state.specs.DeskState.{DeskState}
 use Rattle.live_desk.specs.declared.verdicts.BorrowedVerdict.{BorrowedVerdict}
-use Rattle.live_desk.specs.History.{GoesOn, IsLast, Rises, RisesFrom, last_commit}
+use Rattle.live_desk.specs.History.{GoesOn, Rises, RisesFrom, last_commit}
 use Rattle.live_desk.specs.Shown.{ShownState, IsShown}
 use Rattle.live_desk.specs.Seat.{SeatState, HasSeen, IsTold, Tells}
+use Rattle.live_desk.specs.Holding.{AtLast}
 
 pub goes_on_all : (xs : List DeskState) → GoesOn xs xs
 goes_on_all xs = ([], sym (append-nil xs))
@@ -37,6 +38,11 @@ pub seen_tells : (now : Option DeskState) (question : Question) (seat : SeatStat
     → HasSeen seat.note now seat.seen → IfSome now (λ desk. IsTold question desk Told) → Tells question seat Told
 seen_tells None question seat Told has told = absurd has
 seen_tells (Some desk) question seat Told has told = (desk, has.0, has.1, has.2, told)
+
+pub holds_at_last : (now : Option DeskState) (seat : SeatState) (Is : DeskState → Type 0)
+    → HasSeen seat.note now seat.seen → IfSome now Is → AtLast seat Is
+holds_at_last None seat Is has is = absurd has
+holds_at_last (Some desk) seat Is has is = (desk, has.0, has.1, has.2, is)
 
 -- ---- one state more
 

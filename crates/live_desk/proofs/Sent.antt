@@ -25,11 +25,10 @@ use Rattle.bucket_eval.specs.contracts.sheets.Sheet as Sheet
 use Rattle.atomic_table.proofs.shared.Seat.TheSendSync as place
 use Rattle.atomic_table.proofs.shared.Shared.TheSendSync as board
 use Rattle.atomic_table.proofs.send_lease.SendLease.TheSendSync as lease
-use Rattle.desk_state.specs.contracts.desks.Desk as Desk
 use Rattle.state_list.specs.declared.rules.Naming.{Ghosts}
-use Rattle.state_list.specs.contracts.fronts.Front as Front
-use Rattle.state_list.specs.contracts.words.Book as Book
+use Rattle.state_list.specs.contracts.rules.Events as Events
 use Rattle.state_list.proofs.Sent.{front_send, front_sync, book_send}
+use Rattle.live_roll.proofs.Sent.{log_send}
 use Rattle.left_right.specs.contracts.part.Part as Part
 use Rattle.left_right.proofs.part.Part.TheSendSync as part
 use Rattle.left_right.proofs.part.Deed.TheSendSync as deed
@@ -162,11 +161,12 @@ module _ (J : RattleType) (naming : Ghosts J.Denot) (dict : Dict) where
       → IsSend (Reader.the_field (Published.the_row J naming) u64 Running.the_row Global.the_row (rule.ghosts J naming dict) heap.ghosts).row
   reader_send sync = search (sendable, crosses, factory_send, part_send, place.the_send) depth 40
 
-  pub seat_send : IsSend J → IsSync J → IsSend (Seat.the_field J naming).row
-  seat_send send sync = search (sendable, crosses, reader_send, front_send) depth 40
+  -- a seat has a front of the roll's log too
+  pub seat_send : (events : Ghosts (Events.the_row J).Denot) → IsSend J → IsSync J → IsSend (Seat.the_field J naming events).row
+  seat_send events send sync = search (sendable, crosses, reader_send, front_send, log_send) depth 40
 
-  pub seat_row_send : IsSend J → IsSync J → IsSend (Seat.the_row J naming)
-  seat_row_send send sync = as_row_send (Seat.the_field J naming) (seat_send send sync)
+  pub seat_row_send : (events : Ghosts (Events.the_row J).Denot) → IsSend J → IsSync J → IsSend (Seat.the_row J naming events)
+  seat_row_send events send sync = as_row_send (Seat.the_field J naming events) (seat_send events send sync)
 
   pub publisher_send : IsSend J → IsSync J → IsSend (Publisher.the_field J naming (absorb.ghosts J naming dict) (rule.ghosts J naming dict)).row
   publisher_send send sync =

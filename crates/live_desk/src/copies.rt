@@ -41,7 +41,7 @@ impl Model for DeskCopy {
 
 impl DeskCopy {
     /// What answers the checks of this state.
-    pub fn of(alloc: Global, desk: &Desk) -> Result<DeskCopy, AllocError>
+    pub(crate) fn of(alloc: Global, desk: &Desk) -> Result<DeskCopy, AllocError>
         ensures { IfOk result (λ copy. copy ≡ desk.now) }
     {
         let index = Index::build(alloc, desk.database())?;
@@ -53,7 +53,7 @@ impl DeskCopy {
     }
 
     /// What answers the checks of the next state, of which most is as in this one. Takes over what stayed.
-    pub fn next(&self, alloc: Global, desk: &Desk) -> Result<DeskCopy, AllocError>
+    pub(crate) fn next(&self, alloc: Global, desk: &Desk) -> Result<DeskCopy, AllocError>
         ensures { IfOk result (λ copy. copy ≡ desk.now) }
     {
         let index = self.index.build_next(alloc, desk.database())?;
@@ -87,7 +87,7 @@ impl DeskCopy {
     }
 
     /// The state itself, for contracts.
-    pub fn state(&self) -> &Snapshot<Desk>
+    pub(crate) fn state(&self) -> &Snapshot<Desk>
         ensures { result.now.value ≡ self.now }
     {
         &self.state
@@ -142,6 +142,13 @@ impl<J: Naming> Shown<J> {
             return false;
         }
         seen.catch_up(&self.front)
+    }
+
+    /// The state.
+    pub fn desk(&self) -> &DeskCopy
+        ensures { result.now ≡ self.now.desk }
+    {
+        &self.copy
     }
 
     /// What the state answers to the question.

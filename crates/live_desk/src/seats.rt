@@ -1,8 +1,11 @@
 ghost use Rattle.std.specs.Prelude.{◌≡◌, ◌<◌, IsSome, IfSome, IfOk, IfErr};
 ghost use Rattle.std.specs.Bool.{OnTrue};
+ghost use mathlib.Core.List.{IsPrefix};
 ghost use Rattle.live_desk.specs.History.{GoesOn};
 ghost use Rattle.live_desk.specs.Copies.{latest};
 ghost use Rattle.live_desk.specs.Seat.{with_note, HasSeen, IsFrom, Answers, IsTold, Tells};
+
+mod holding;
 
 use crate::copies::Published;
 use crate::running::{Running, Steps};
@@ -11,8 +14,8 @@ use bucket_eval::{Scratch, Verdict};
 use cynara_keys::{BorrowedQuestion, Question};
 use desk_state::Desk;
 use left_right::reader::{Reader, Reading};
-use live_roll::Seated;
-use state_list::{Front, Naming};
+use live_roll::{Event, Seated};
+use state_list::{Events, Front, Naming};
 use std::alloc::{AllocError, Global};
 use std::marker::Model;
 use std::sync::Wait;
@@ -22,43 +25,52 @@ pub type SeatReader<J> = Reader<Published<J>, u64, Running>;
 pub type SeatReading<J> = Reading<Published<J>, u64, Running>;
 
 /// What one thread reads published states by: a number, which is its place in the roll, the greatest note that the roll
-/// told it, and what it has seen.
+/// told it, what it has seen, and what had happened when a connection entered last in its place.
 #[derive(Drop)]
-pub struct Seat<J: Naming> {
+pub struct Seat<J: Naming>
+where
+    Events<J>: Naming,
+{
     // None only while a state is read.
     reader: Option<SeatReader<J>>,
     front: Front<Desk, J>,
+    events: Front<Event, Events<J>>,
     number: u32,
     note: u64,
     scratch: Scratch,
 }
 
-impl<J: Naming> Model for Seat<J> {
+impl<J: Naming> Model for Seat<J>
+where
+    Events<J>: Naming,
+{
     ghost use Rattle.std.specs.Prelude.{◌≡◌, ◌<◌, true, is_some};
     ghost use Rattle.live_desk.specs.Seat.{SeatState};
 
     ghost Value = { SeatState };
 
-    ghost view = { λ seat. record { number = seat.number; note = seat.note; seen = seat.front } };
+    ghost view = { λ seat. record { number = seat.number; note = seat.note; seen = seat.front; events = seat.events } };
 
     ghost invariant = { λ seat. (is_some seat.reader ≡ true) × (seat.number < 64) };
 }
 
 impl<J: Naming> Seat<J> {
-    /// A seat that has seen these states and was told no note.
+    /// A seat that has seen these states, knows of these events, and was told no note.
     pub(crate) fn of(
         alloc: Global,
         reader: SeatReader<J>,
         front: Front<Desk, J>,
+        events: Front<Event, Events<J>>,
         number: u32,
     ) -> Result<Seat<J>, AllocError>
         requires { number < 64 }
-        ensures { IfOk result (λ seat. seat ≡ record { number = number; note = 0; seen = front }) }
+        ensures { IfOk result (λ seat. seat ≡ record { number = number; note = 0; seen = front; events = events }) }
     {
         let scratch = Scratch::new(alloc)?;
         Ok(Seat {
             reader: Some(reader),
             front,
+            events,
             number,
             note: 0,
             scratch,
@@ -78,6 +90,13 @@ impl<J: Naming> Seat<J> {
         ensures { result.now ≡ self.now.seen }
     {
         &self.front
+    }
+
+    /// Whether it knows of no more events than stand in this log, which then begins with those that it knows of.
+    pub fn knows_only(&self, events: &Front<Event, Events<J>>) -> bool
+        ensures { OnTrue result (IsPrefix self.now.events events.now) }
+    {
+        events.covers(&self.events)
     }
 
     /// The evaluation of the last state that the seat has then seen, whose commit is not below the greatest note that
@@ -117,8 +136,10 @@ impl<J: Naming> Seat<J> {
     }
 }
 
-impl<J: Naming> Seated for Seat<J> {
+impl<J: Naming> Seated<J> for Seat<J> {
     ghost place = { λ seat. seat.number };
+
+    ghost known = { λ seat. seat.events };
 
     ghost told = { with_note };
 
@@ -126,8 +147,13 @@ impl<J: Naming> Seated for Seat<J> {
         self.number
     }
 
-    fn tell(&mut self, note: u64) {
+    #[tactic(auto, using(crate::proofs::Entering::knew_log))]
+    fn tell(&mut self, note: u64, events: &Front<Event, Events<J>>) -> bool {
+        if !self.events.catch_up(events) {
+            return false;
+        }
         self.note = self.note.max(note);
+        true
     }
 }
 

@@ -7,8 +7,12 @@ use Rattle.std.specs.declared.vec.Vec.{Vec}
 use Rattle.std.specs.declared.alloc.Global.{Global}
 use Rattle.std.specs.List.{AllByRecursion}
 use Rattle.live_roll.specs.declared.entries.Entry.{Entry}
+use Rattle.live_roll.specs.declared.events.Event.{Event}
+use Rattle.live_roll.specs.declared.events.Event.TheVariants.{Entered, Hung}
+use Rattle.live_roll.specs.Events.{hung_to, EnterAbove}
 use Rattle.live_roll.specs.Places.{IsHungUp, IsHungUpIf, IsClosed, IsCurrent, IsLeft, AreHungUp, AreHungBelow, is_below, IsVacant}
 use Rattle.live_roll.specs.Roll.{RollState, IsRoll}
+use Rattle.live_roll.proofs.Following.{noted_entry, above_entry, noted_hang, above_hang}
 
 module _ {H : Type 0} where
   pub vacant_push : (places : List (Option (Entry H))) → IsVacant places → IsVacant (places ++ None ∷ [])
@@ -106,19 +110,78 @@ module _ {H : Type 0} where
       → length written ≡ length kept.items → (with_items kept written).items ≡ written
   items_written kept written same = with_items_is kept written (same ∙ sym kept.ok.0)
 
-  pub hung_roll : (used : H → Bool) (roll : RollState H) (commit : ℕ) (now : List (Option (Entry H))) → IsRoll used roll
-      → AreHungBelow used (max roll.note commit) roll.places now
-      → IsRoll used (record { workers = roll.workers; note = max roll.note commit; is_stopped = roll.is_stopped; places = now })
-  hung_roll used roll commit now is hung = record {
+  -- an end stands in the place of a seat that entered at the note, and the log says so
+  pub entered_roll : (used : H → Bool) (roll : RollState H) (seat : ℕ) (place : Option (Entry H)) (places : List (Option (Entry H)))
+      (events : List Event) → IsRoll used roll → roll.is_stopped ≡ false → IsCurrent used roll.note place
+      → places ≡ set roll.places seat place → length places ≡ 64 → events ≡ roll.events ++ Entered roll.note ∷ []
+      → IsRoll used (record {
+        workers = roll.workers;
+        note = roll.note;
+        is_stopped = roll.is_stopped;
+        places = places;
+        opened = roll.opened;
+        events = events;
+      })
+  entered_roll used roll seat place places events is running own now count then = record {
+    count = count;
+    current = subst (AllByRecursion (IsCurrent used roll.note)) (sym now)
+        (all_set (IsCurrent used roll.note) roll.places seat place own is.current);
+    ended = λ stopped. absurd (cc (running, stopped));
+    noted = noted_entry roll.opened roll.note roll.events events then is.noted;
+    above = above_entry roll.opened roll.note roll.events events then is.noted is.above;
+  }
+
+  pub hung_roll : (used : H → Bool) (roll : RollState H) (commit : ℕ) (now : List (Option (Entry H))) (events : List Event)
+      → IsRoll used roll → AreHungBelow used (max roll.note commit) roll.places now → events ≡ roll.events ++ Hung commit ∷ []
+      → IsRoll used (record {
+        workers = roll.workers;
+        note = max roll.note commit;
+        is_stopped = roll.is_stopped;
+        places = now;
+        opened = roll.opened;
+        events = events;
+      })
+  hung_roll used roll commit now events is hung then = record {
     count = count_below used (max roll.note commit) roll.places now hung ∙ is.count;
     current = current_kept used roll.note commit roll.places now is.current hung;
     ended = λ ended. closed_kept used (max roll.note commit) roll.places now (is.ended ended) hung;
+    noted = noted_hang roll.opened roll.note commit roll.events events then is.noted;
+    above = above_hang roll.opened commit roll.events events then is.above;
   }
 
   pub stopped_roll : (used : H → Bool) (roll : RollState H) (now : List (Option (Entry H))) → IsRoll used roll
-      → AreHungUp used roll.places now → IsRoll used (record { workers = roll.workers; note = roll.note; is_stopped = true; places = now })
+      → AreHungUp used roll.places now
+      → IsRoll used (record {
+        workers = roll.workers;
+        note = roll.note;
+        is_stopped = true;
+        places = now;
+        opened = roll.opened;
+        events = roll.events;
+      })
   stopped_roll used roll now is hung = record {
     count = count_each used roll.places now hung ∙ is.count;
     current = current_each used roll.note now (closed_each used roll.places now hung);
     ended = λ _. closed_each used roll.places now hung;
+    noted = is.noted;
+    above = is.above;
+  }
+
+  -- a roll that was just opened
+  pub first_roll : (used : H → Bool) (workers note opened : ℕ) (places : List (Option (Entry H))) (events : List Event)
+      → length places ≡ 64 → IsVacant places → opened ≡ note → events ≡ []
+      → IsRoll used (record {
+        workers = workers;
+        note = note;
+        is_stopped = false;
+        places = places;
+        opened = opened;
+        events = events;
+      })
+  first_roll used workers note opened places events count vacant same quiet = record {
+    count = count;
+    current = current_vacant used note places vacant;
+    ended = λ stopped. absurd (cc stopped);
+    noted = sym (ap (hung_to opened) quiet ∙ same);
+    above = subst (EnterAbove opened) (sym quiet) tt;
   }

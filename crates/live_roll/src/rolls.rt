@@ -1,14 +1,22 @@
 ghost use Rattle.std.specs.Prelude.{◌≡◌, ◌<◌, ◌≤◌, length, false, MatchResult, IfOk, IfErr, OnOk, OnErr};
 ghost use Rattle.std.specs.Bool.{IsTrue};
+ghost use mathlib.Core.List.{IsPrefix};
+ghost use Rattle.state_list.specs.Opening.{book_of};
+ghost use Rattle.live_roll.specs.Events.{NoneAbove, NoneBelow};
 ghost use Rattle.live_roll.specs.Places.{IsVacant, count_served};
 ghost use Rattle.live_roll.specs.Roll.{IsNew, left_of, with_entry, LeavesPlace, HangsTo, StopsAll};
 
 use crate::answers::{Left, Stopped};
 use crate::entries::{Entry, count_served, enter, hang_below, hang_each, leave};
+use crate::events::Event;
+use crate::log::{logged, tell};
 use crate::seated::Seated;
 use link_ports::HangEnd;
+use state_list::{Book, Events, Front, Naming, Opened};
 use std::alloc::{AllocError, Global};
 use std::marker::Model;
+use std::snapshot::Snapshot;
+use std::sync::Wait;
 
 /// How many places a roll has.
 pub const MOST_SEATS: u32 = 64;
@@ -17,50 +25,93 @@ pub const MOST_SEATS: u32 = 64;
 /// enters now. An end that was hung up stays in its place until the next connection comes there. Each end that was not
 /// entered at the note, and in a stopped roll all were.
 ///
-/// The roll also keeps how many workers serve the connections, each in the place of a seat of its own.
+/// The roll also keeps how many workers serve the connections, each in the place of a seat of its own; and what has
+/// happened since it was opened, its log, of which there is one for each name `J`.
 #[derive(Drop)]
-pub struct Roll<H: HangEnd> {
+pub struct Roll<H: HangEnd, J: Naming>
+where
+    Events<J>: Naming,
+{
     workers: u32,
     note: u64,
     is_stopped: bool,
     places: Vec<Option<Entry<H>>>,
+    opened: Snapshot<u64>,
+    book: Book<Event, Events<J>>,
+    log: Front<Event, Events<J>>,
 }
 
-impl<H: HangEnd> Model for Roll<H> {
+impl<H: HangEnd, J: Naming> Model for Roll<H, J>
+where
+    Events<J>: Naming,
+{
     ghost use Rattle.live_roll.specs.Roll.{RollState, IsRoll};
 
     ghost Value = { RollState H };
 
-    ghost view = { λ roll. record { workers = roll.workers; note = roll.note; is_stopped = roll.is_stopped; places = roll.places.items } };
+    ghost view = { λ roll. record {
+      workers = roll.workers;
+      note = roll.note;
+      is_stopped = roll.is_stopped;
+      places = roll.places.items;
+      opened = roll.opened.value;
+      events = roll.log;
+    } };
 
-    ghost invariant = { λ roll. IsRoll H.used (record { workers = roll.workers; note = roll.note; is_stopped = roll.is_stopped; places = roll.places.items }) };
+    ghost invariant = { λ roll. IsRoll H.used (record {
+      workers = roll.workers;
+      note = roll.note;
+      is_stopped = roll.is_stopped;
+      places = roll.places.items;
+      opened = roll.opened.value;
+      events = roll.log;
+    }) };
 }
 
-impl<H: HangEnd> Roll<H> {
-    /// A roll with no connection, for so many workers, whose note is this commit.
-    #[tactic(auto, using(crate::proofs::Keeping::current_vacant))]
-    pub fn new(alloc: Global, note: u64, workers: u32) -> Result<Roll<H>, AllocError>
+impl<H: HangEnd, J: Naming> Roll<H, J> {
+    /// A roll with no connection, for so many workers, whose note is this commit. Its log is this list, which has no
+    /// entries yet. Fails for want of memory alone.
+    #[tactic(auto, using(crate::proofs::Keeping::first_roll))]
+    pub fn new(
+        alloc: Global,
+        happened: Opened<Event>,
+        note: u64,
+        workers: u32,
+    ) -> Result<Roll<H, J>, AllocError>
+        requires { book_of happened ≡ J.events }
         ensures { IfOk result (IsNew note workers) }
     {
         let places = vacant_places(alloc)?;
+        let (book, log) = happened.named::<Events<J>>();
         Ok(Roll {
             workers,
             note,
             is_stopped: false,
             places,
+            opened: Snapshot::of(&note),
+            book,
+            log,
         })
     }
 
     /// A connection enters at the roll's note, which is told to the seat and answered. Its end stands in the seat's
-    /// place; one that stood there is hung up first, and dropped. Refuses exactly where the roll is stopped; the end then
-    /// comes back.
-    #[tactic(auto, using(crate::proofs::Keeping::all_set))]
-    pub fn enter<S: Seated>(&mut self, end: H, seat: &mut S) -> Result<u64, (H, Stopped)>
+    /// place; one that stood there is hung up first, and dropped. The log says that it entered, and the seat is told the
+    /// log up to that, in which no connections were hung up for a later commit. Refuses exactly where the roll is
+    /// stopped; the end then comes back.
+    #[tactic(auto, using(crate::proofs::Following::none_above_note))]
+    pub fn enter<R: Wait, S: Seated<J>>(
+        &mut self,
+        rt: &R,
+        end: H,
+        seat: &mut S,
+    ) -> Result<u64, (H, Stopped)>
         ensures open { OnOk result (self.old.is_stopped ≡ false) }
         ensures refused { OnErr result (IsTrue self.old.is_stopped) }
         ensures note { IfOk result (λ note. note ≡ self.old.note) }
         ensures entered { OnOk result (self.new ≡ with_entry (S.place seat.old) end self.old) }
-        ensures told { OnOk result (seat.new ≡ S.told self.old.note seat.old) }
+        ensures told { OnOk result (seat.new ≡ S.told self.old.note self.new.events seat.old) }
+        ensures knew { OnOk result (IsPrefix (S.known seat.old) self.new.events) }
+        ensures above { OnOk result (NoneAbove self.new.events self.old.note) }
         ensures back { IfErr result (λ refusal. refusal.0 ≡ end) }
         ensures commit { IfErr result (λ refusal. refusal.1.commit ≡ self.old.note) }
         ensures kept { OnErr result (self.new ≡ self.old) }
@@ -76,13 +127,15 @@ impl<H: HangEnd> Roll<H> {
             entered: note,
             has_left: false,
         };
+        let log = logged(rt, &self.book, &self.log, Event::Entered(note));
+        tell(rt, seat, note, &log);
         enter(&mut self.places[at], entry);
-        seat.tell(note);
+        self.log = log;
         Ok(note)
     }
 
-    /// A connection leaves that entered at this commit in the place of this seat: what stands there is hung up. `Hung` exactly where the note has risen above the commit, else `Stopped` exactly where the roll is
-    /// stopped, else `Still`.
+    /// A connection leaves that entered at this commit in the place of this seat: what stands there is hung up. `Hung`
+    /// exactly where the note has risen above the commit, else `Stopped` exactly where the roll is stopped, else `Still`.
     #[tactic(auto, using(crate::proofs::Keeping::all_set))]
     pub fn leave(&mut self, seat: u32, entered: u64) -> Left
         requires { seat < 64 }
@@ -100,13 +153,16 @@ impl<H: HangEnd> Roll<H> {
         Left::Still
     }
 
-    /// Raises the note to this commit, where that is higher. Hangs up every end that entered below the note.
-    pub fn hang_all(&mut self, note: u64)
+    /// Raises the note to this commit, where that is higher. Hangs up every end that entered below the note. The log
+    /// then says so of this commit.
+    pub fn hang_all<R: Wait>(&mut self, rt: &R, note: u64)
         ensures { HangsTo H.used note self.old self.new }
     {
         let now = self.note.max(note);
         hang_below(self.places.as_mut_slice(), now);
+        let log = logged(rt, &self.book, &self.log, Event::Hung(note));
         self.note = now;
+        self.log = log;
     }
 
     /// From now on no connection enters. Hangs up all ends.
@@ -115,6 +171,15 @@ impl<H: HangEnd> Roll<H> {
     {
         hang_each(self.places.as_mut_slice());
         self.is_stopped = true;
+    }
+
+    /// The log: what has happened since the roll was opened. Who entered behind a hang-up entered at its commit or
+    /// above.
+    pub fn known(&self) -> &Front<Event, Events<J>>
+        ensures events { result.now ≡ self.now.events }
+        ensures none_below { NoneBelow self.now.events }
+    {
+        &self.log
     }
 
     /// How many workers serve the connections.

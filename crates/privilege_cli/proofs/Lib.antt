@@ -1,4 +1,3 @@
-pub mod Serving
 pub mod Silent
 pub mod Completing
 pub mod Noting

@@ -6,13 +6,12 @@ use Rattle.link_ports.specs.declared.doors.Door.{Ghosts as DoorTells}
 use Rattle.run_endings.specs.Outside.{SinkSeen, DiskSeen, sink_seen}
 use Rattle.run_endings.specs.Saying.{Said, Writes}
 use Rattle.run_endings.specs.declared.endings.Ending.{Ending}
-use Rattle.run_endings.specs.declared.endings.Ending.TheVariants.{Sink}
 use Rattle.command_words.specs.declared.commands.Command.{Command}
 use Rattle.command_words.specs.declared.commands.Command.TheVariants.{Watch}
-use Rattle.watch_runs.specs.Watching.{WritesLines, WritesLast}
+use Rattle.watch_runs.specs.Watching.{WritesLast}
 use Rattle.watch_runs.proofs.Lines.{LastLine, last_line_behind}
-use Rattle.privilege_cli.specs.Program.{Serves, Watches, AnswersBy, WritesBy}
-use Rattle.privilege_cli.proofs.Serving.{never-sink}
+use Rattle.watch_runs.proofs.Running.{lines_of}
+use Rattle.privilege_cli.specs.Program.{AnswersBy, WritesBy}
 
 -- what a sink took and counted before the note, it took and counted with it
 noted : (ending : Ending) (said : Said) {K : Type 0} (taken : K → Option (List ℕ)) (faults : K → ℕ) (before : SinkSeen) (sink after : K)
@@ -24,17 +23,6 @@ noted ending said taken faults before sink after writes same count =
 
 module _ {N L H E A J : Type 0} (dial : DialTells N L H) (link : LinkTells L H) (closed : N → Option (List E)) (door : DoorTells E A J)
     (accepted : LinkTells A J) (ending : Ending) (disk disk_after : DiskSeen) (net net_after : N) where
-  lines : (workers : ℕ) (before after : SinkSeen) → Watches dial link closed door accepted ending disk disk_after net net_after workers before after
-      → WritesLines workers ending before after
-  lines workers before after (met, writing, is, serves, journal) = (
-    met,
-    writing,
-    is,
-    (λ (is_sink : met ≡ Sink). never-sink dial link closed door accepted workers disk disk_after net net_after
-        (subst (Serves dial link closed door accepted workers disk disk_after net net_after) is_sink serves)),
-    journal,
-  )
-
   -- the same of any command, by what it wrote before the last line
   pub written_by : (said : Said) (command : Option Command) {K : Type 0} (taken : K → Option (List ℕ)) (faults : K → ℕ) (before : SinkSeen)
       (sink last after : K)
@@ -47,7 +35,8 @@ module _ {N L H E A J : Type 0} (dial : DialTells N L H) (link : LinkTells L H) 
     subst (λ number. WritesLast ending (sink_seen taken faults sink) (record { taken = taken after; faults = number })) (sym count)
         (subst (λ bytes. WritesLast ending (sink_seen taken faults sink) (record { taken = bytes; faults = faults last })) (sym same)
         (last_line_behind workers ending before (sink_seen taken faults sink) (sink_seen taken faults last)
-        (lines workers before (sink_seen taken faults sink) watches) writes)),
+        (lines_of accepted.traffic accepted.marks accepted.faults door.given_back door.faults door.kind workers ending disk disk_after
+        (dial.faults net) (dial.faults net_after) (closed net) (closed net_after) before (sink_seen taken faults sink) watches) writes)),
   )
   written_by said command {K} taken faults before sink last after answers writes same count =
       noted ending said taken faults before last after (writes said before answers) same count

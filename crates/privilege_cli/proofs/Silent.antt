@@ -23,16 +23,15 @@ use Rattle.script_words.specs.declared.places.Place.TheVariants.{Admin as Admin_
 use Rattle.script_replies.proofs.Ending.{ends_unread}
 use Rattle.folder_runs.specs.Folder.{RefusesFolder}
 use Rattle.serve_runs.specs.Run.RunsServe.{refused}
+use Rattle.serve_runs.proofs.Ending.{plain-not-sink, plain-not-source}
 use Rattle.admin_runs.proofs.Turns.{in_turn_none}
 use Rattle.cynara_client.specs.declared.refusals.ClientRefusal.TheVariants as refusal
 use Rattle.client_runs.specs.CheckRun.{EndsCheck}
-use Rattle.monitor_journal.specs.declared.writing.Writing.{Writing}
 use Rattle.monitor_journal.specs.declared.writing.Writing.TheVariants.{GoesOn}
-use Rattle.watch_runs.specs.Watching.{Journaled, ending_with}
 use Rattle.watch_runs.specs.Watching.Journaled.{unserved as unserved_lines}
-use Rattle.watch_runs.proofs.Lines as lines
-use Rattle.privilege_cli.specs.Program.{Serves, RunsCommand, AnswersBy, CountsDisk}
-use Rattle.privilege_cli.proofs.Serving.{never-sink, never-source}
+use Rattle.watch_runs.proofs.Recorders.{no_queue}
+use Rattle.watch_runs.proofs.Running.{reads_no_source}
+use Rattle.privilege_cli.specs.Program.{Serves, Watches, RunsCommand, AnswersBy, CountsDisk}
 
 -- `check` and `simple` are given no source and no disk, and so no call of them ends it
 pub uncounted : (ending : Ending) (count : ℕ) → EndsCheck ending → (count ≡ source_faults_after ending count) × (count ≡ disk_faults_after ending count)
@@ -75,7 +74,7 @@ module _ {N L H E A J : Type 0} (dial : DialTells N L H) (link : LinkTells L H) 
     }
 
     unserved : (workers : ℕ) → Serves dial link closed door accepted workers before.disk before.disk net net Memory
-    unserved workers = refused unmounted refl refl refl
+    unserved workers = (None, refused refl unmounted refl refl refl)
 
     unread : (command : Option Command) → Says Memory before.sink before.disk net command
     unread None = ((tt, refl), unwritten)
@@ -86,7 +85,8 @@ module _ {N L H E A J : Type 0} (dial : DialTells N L H) (link : LinkTells L H) 
         (record { input = [] ++ had.0; rest = had.0; had = had.1; answered = refl }, unwritten)
     unread (Some (Sample count)) = (refl, unwritten)
     unread (Some (Serve workers)) = ((refl, unserved workers), unwritten)
-    unread (Some (Watch workers)) = (refl, (Memory, GoesOn, refl, unserved workers, unserved_lines tt refl refl))
+    unread (Some (Watch workers)) =
+        (refl, (Memory, GoesOn, no_queue, None, refused refl unmounted refl refl refl, unserved_lines refl refl refl, refl))
     unread (Some (Check asked)) =
         ((Err (refusal.Memory alloc_error), inr (record { error = alloc_error; answer_is = refl; same = refl }), (refl, refl)), unwritten)
     unread (Some (Simple asked)) =
@@ -137,12 +137,16 @@ module _ {N L H E A J : Type 0} (dial : DialTells N L H) (link : LinkTells L H) 
     IsServed = Serves dial link closed door accepted workers before.disk disk net net_after
 
     says-nothing : (ending : Ending) → IsServed ending → WritesAnswers ending silence before.sink before.sink
-    says-nothing Sink serves = absurd (never-sink dial link closed door accepted workers before.disk disk net net_after serves)
+    says-nothing Sink serves =
+        absurd (plain-not-sink accepted.traffic accepted.marks accepted.faults door.given_back door.faults door.kind workers
+        before.disk disk (dial.faults net) (dial.faults net_after) (closed net) (closed net_after) serves)
     says-nothing Memory serves = unwritten
     says-nothing ending serves = record { taken = Appended-none before.sink.taken; are_written = (refl, refl) }
 
     pub reads-nothing : (ending : Ending) → IsServed ending → before.source.faults ≡ source_faults_after ending before.source.faults
-    reads-nothing Source serves = absurd (never-source dial link closed door accepted workers before.disk disk net net_after serves)
+    reads-nothing Source serves =
+        absurd (plain-not-source accepted.traffic accepted.marks accepted.faults door.given_back door.faults door.kind workers
+        before.disk disk (dial.faults net) (dial.faults net_after) (closed net) (closed net_after) serves)
     reads-nothing ending serves = refl
 
     -- the words' command is that service
@@ -155,16 +159,16 @@ module _ {N L H E A J : Type 0} (dial : DialTells N L H) (link : LinkTells L H) 
     -- ---- a service that writes lines
 
     module _ (ending : Ending) (sink : SinkSeen) where
-      abbrev Watches : Type 0
-      Watches = (met : Ending) × (writing : Writing) × IsServed met × Journaled workers met writing before.sink sink
-          × (ending ≡ ending_with met writing)
+      abbrev Watched : Type 0
+      Watched = Watches dial link closed door accepted ending before.disk disk net net_after workers before.sink sink
 
-      pub watches-as : command_of words ≡ Some (Watch workers) → Watches → Stops ending sink disk net_after
-      watches-as is (met, writing, serves, journal, ends) =
-          let says = subst (Says ending sink disk net_after) (sym is) (refl, (met, writing, ends, serves, journal)) in
+      pub watches-as : command_of words ≡ Some (Watch workers) → Watched → Stops ending sink disk net_after
+      watches-as is watched =
+          let says = subst (Says ending sink disk net_after) (sym is) (refl, watched) in
           (silence, says.0, says.1)
 
-      pub watches-unread : Watches → before.source.faults ≡ source_faults_after ending before.source.faults
-      watches-unread (met, writing, serves, journal, ends) =
-          subst (λ e. before.source.faults ≡ source_faults_after e before.source.faults) (sym ends)
-          (lines.reads_nothing met writing before.source.faults (λ is. never-source dial link closed door accepted workers before.disk disk net net_after (subst IsServed is serves)))
+      pub watches-unread : Watched → before.source.faults ≡ source_faults_after ending before.source.faults
+      watches-unread watched =
+          reads_no_source accepted.traffic accepted.marks accepted.faults door.given_back door.faults door.kind workers ending
+          before.disk disk (dial.faults net) (dial.faults net_after) (closed net) (closed net_after) before.sink sink
+          before.source.faults watched

@@ -8,19 +8,24 @@ use Rattle.link_ports.specs.Traffic.{Traffic}
 use Rattle.link_ports.specs.LinkMarks.{LinkMarks}
 use Rattle.link_ports.specs.declared.door_kinds.DoorKind.{DoorKind}
 use Rattle.desk_state.specs.DeskState.{DeskState}
+use mathlib.Core.List.{IsPrefix}
+use Rattle.live_roll.specs.declared.events.Event.{Event}
+use Rattle.live_desk.specs.History.{GoesOn}
 use Rattle.live_desk.specs.Seat.{SeatState, new_seat, new_seats}
 use Rattle.server_hall.specs.StopNews.{StopsTold, unasked}
-use Rattle.desk_server.specs.Visit.{Works, EndsWorking, door_faults_after}
-use Rattle.desk_server.specs.Clients.{VisitsClients}
+use Rattle.desk_server.specs.Visit.{Visit, Works, EndsWorking, door_faults_after}
 use Rattle.desk_server.specs.Agents.{VisitsAgents}
 use Rattle.desk_server.specs.declared.workers.WorkerEnd.{WorkerEnd}
 use Rattle.desk_server.specs.declared.workers.WorkerEnd.TheVariants.{Stopped, DoorFailed, Memory, Alone, Unstarted}
-use Rattle.serve_runs.specs.Crew.{EndedWorker, ends_of, doors_of, lacks_memory, is_alone, is_deserted, posts_with, WorksFor, Serves}
+use Rattle.serve_runs.specs.Crew.{EndedWorker, ends_of, doors_of, left_by, lacks_memory, is_alone, is_deserted, kind_for, posts_with}
+use Rattle.serve_runs.specs.Crew.{WorksFor, Serves}
+use Rattle.serve_runs.specs.Duties.{states_of, AreStatesOf}
 use Rattle.serve_runs.specs.Serving.{HasRisen}
 use Rattle.serve_runs.specs.declared.crews.Station.{Station}
 use Rattle.serve_runs.specs.declared.crews.Station.TheVariants.{Clients, Agents}
 use Rattle.serve_runs.specs.declared.crews.Worker.{Worker}
-use Rattle.serve_runs.specs.parts.Crews.{duty_at, post_at, stations_with, duties_in, duty_of, duties_of, door_of, lacked, worker_lacked}
+use Rattle.serve_runs.specs.parts.Crews.{duty_at, seat_at, post_at, stations_with, duties_in, duty_of, duties_of, door_of, lacked}
+use Rattle.serve_runs.specs.parts.Crews.{worker_lacked}
 use Rattle.serve_runs.specs.parts.Crews.{CountsDoor, StandsAt, WorksAt, HasWorked, HasSeenOf, SawOnly}
 
 -- ---- stations
@@ -31,22 +36,23 @@ seats_are zero = refl
 seats_are (suc count) =
     length-append (new_seats count) (new_seat count ∷ []) ∙ (let is = seats_are count in omega (arith, is))
 
--- the stations have all duties, and all seats
-pub duties_given : (J X : Type 0) (seats : List SeatState) (duties : List X) → length duties ≡ length seats
-    → duties_in (map (duty_at {J = J}) (stations_with seats duties)) ≡ duties
-duties_given J X [] [] long = refl
-duties_given J X [] (duty ∷ duties) long = absurd (omega (arith, long))
-duties_given J X (seat ∷ seats) [] long = absurd (omega (arith, long))
-duties_given J X (seat ∷ seats) (duty ∷ duties) long =
-    ap (λ (list : List X). duty ∷ list) (duties_given J X seats duties (omega (arith, long)))
+-- what the stations hand on is that of the seats and duties
+pub posts_given : {S : Type 0} (J X : Type 0) (state : SeatState → X → S) (seats : List SeatState) (duties : List X)
+    → map (post_at {J = J} state) (stations_with seats duties) ≡ posts_with (states_of state seats duties)
+posts_given J X state [] [] = refl
+posts_given J X state [] (duty ∷ duties) = refl
+posts_given J X state (seat ∷ seats) [] = refl
+posts_given {S} J X state (seat ∷ seats) (duty ∷ duties) =
+    ap (λ (list : List (Option S)). Some (state seat duty) ∷ list) (posts_given J X state seats duties)
 
-pub posts_given : (J X : Type 0) (seats : List SeatState) (duties : List X) → length duties ≡ length seats
-    → map (post_at {J = J} {X = X}) (stations_with seats duties) ≡ posts_with seats
-posts_given J X [] [] long = refl
-posts_given J X [] (duty ∷ duties) long = absurd (omega (arith, long))
-posts_given J X (seat ∷ seats) [] long = absurd (omega (arith, long))
-posts_given J X (seat ∷ seats) (duty ∷ duties) long =
-    ap (λ (list : List (Option SeatState)). Some seat ∷ list) (posts_given J X seats duties (omega (arith, long)))
+-- where nothing but the seats is handed on
+pub plain_states : {X : Type 0} (seats : List SeatState) (duties : List X) → length duties ≡ length seats
+    → states_of (λ seat duty. seat) seats duties ≡ seats
+plain_states [] [] long = refl
+plain_states [] (duty ∷ duties) long = refl
+plain_states (seat ∷ seats) [] long = absurd (omega (arith, long))
+plain_states (seat ∷ seats) (duty ∷ duties) long =
+    ap (λ (list : List SeatState). seat ∷ list) (plain_states seats duties (omega (arith, long)))
 
 -- one more for agents
 pub agents_more : {J X : Type 0} (start stations after : List (Station J X)) (count : ℕ) → stations ≡ start ++ replicate count Agents
@@ -107,23 +113,22 @@ doors_push {J} {E} {X} crew worker = map-append (λ (w : Worker J E X). door_of 
 
 -- ---- all workers
 
-module _ {L J E X : Type 0} (traffic : L → Option Traffic) (marks : L → LinkMarks) (faults : L → ℕ)
-    (given_back : E → Option (List L)) (door_faults : E → ℕ) (kind : E → Option DoorKind) (goes : X → X → Type 0) where
+module _ {S L J E X : Type 0} (state : SeatState → X → S) (visits : S → Visit L → S → Type 0)
+    (traffic : L → Option Traffic) (marks : L → LinkMarks) (faults : L → ℕ)
+    (given_back : E → Option (List L)) (door_faults : E → ℕ) where
   -- A worker that is not started leaves its station and its door as they were.
-  pub unstarted : (station : Station J X) (door : E) (told : StopsTold) → ((duty : X) → goes duty duty)
-      → WorksAt traffic marks faults given_back door_faults goes Unstarted station station door door told told
-  unstarted (Clients seat duty) door told stays = (
-    record {
-      visits = [];
-      fresh = tt;
-      in_turn = refl;
-      ending = (refl, refl);
-      given_back = λ after is. (after, is, sym (append-nil after));
-      counted = refl;
-    },
-    stays duty,
-  )
-  unstarted Agents door told stays =
+  pub unstarted : (station : Station J X) (door : E) (told : StopsTold)
+      → WorksAt state visits traffic marks faults given_back door_faults Unstarted station station door door told told
+  unstarted (Clients seat duty) door told =
+      record {
+        visits = [];
+        fresh = tt;
+        in_turn = refl;
+        ending = (refl, refl);
+        given_back = λ after is. (after, is, sym (append-nil after));
+        counted = refl;
+      }
+  unstarted Agents door told =
       record {
         visits = [];
         fresh = tt;
@@ -133,17 +138,20 @@ module _ {L J E X : Type 0} (traffic : L → Option Traffic) (marks : L → Link
         counted = refl;
       }
 
-module _ {L J E X : Type 0} (traffic : L → Option Traffic) (marks : L → LinkMarks) (faults : L → ℕ)
-    (given_back : E → Option (List L)) (door_faults : E → ℕ) (kind : E → Option DoorKind) (goes : X → X → Type 0)
-    (published : List DeskState) where
+module _ {S L J E X : Type 0} (state : SeatState → X → S) (seat_of : S → SeatState)
+    (seat_is : (seat : SeatState) (duty : X) → seat_of (state seat duty) ≡ seat) (visits : S → Visit L → S → Type 0)
+    (traffic : L → Option Traffic) (marks : L → LinkMarks) (faults : L → ℕ)
+    (given_back : E → Option (List L)) (door_faults : E → ℕ) (kind : E → Option DoorKind) (published : List DeskState)
+    (events : List Event) where
   works_for : (station now : Station J X) (end : WorkerEnd) (door door_now : E) (told : StopsTold) → door_faults door ≡ 0
-      → WorksAt traffic marks faults given_back door_faults goes end station now door door_now unasked told
-      → HasSeenOf published (post_at now)
-      → WorksFor traffic marks faults given_back door_faults kind published (post_at station) end told (given_back door) door_now
-  works_for (Clients seat duty) (Clients seat_now duty_now) end door door_now told fresh (works, went_on) saw = (
-    seat_now,
-    saw,
-    subst (λ (count : ℕ). Works (VisitsClients traffic marks faults) (EndsWorking unasked told) marks faults end seat seat_now
+      → WorksAt state visits traffic marks faults given_back door_faults end station now door door_now unasked told
+      → HasSeenOf published events (seat_at now)
+      → WorksFor seat_of visits traffic marks faults given_back door_faults kind published events (post_at state station)
+      (post_at state now) end told (given_back door) door_now
+  works_for (Clients seat duty) (Clients seat_now duty_now) end door door_now told fresh works saw = (
+    subst (λ (seat : SeatState). GoesOn seat.seen published) (sym (seat_is seat_now duty_now)) saw.0,
+    subst (λ (seat : SeatState). IsPrefix seat.events events) (sym (seat_is seat_now duty_now)) saw.1,
+    subst (λ (count : ℕ). Works visits (EndsWorking unasked told) marks faults end (state seat duty) (state seat_now duty_now)
         (given_back door) (given_back door_now) count (door_faults door_now)) fresh works,
   )
   works_for Agents Agents end door door_now told fresh works saw =
@@ -152,41 +160,45 @@ module _ {L J E X : Type 0} (traffic : L → Option Traffic) (marks : L → Link
   works_for (Clients seat duty) Agents end door door_now told fresh works saw = absurd works
   works_for Agents (Clients seat duty) end door door_now told fresh works saw = absurd works
 
+  kinds : (station : Station J X) → kind_for (seat_at station) ≡ kind_for (post_at state station)
+  kinds (Clients seat duty) = refl
+  kinds Agents = refl
+
   serves_one : (station : Station J X) (opened now : Worker J E X) → StandsAt given_back door_faults kind station opened
-      → (worked : HasWorked traffic marks faults given_back door_faults goes kind opened now) → SawOnly published now
-      → Serves traffic marks faults given_back door_faults kind published (post_at station) (record { end = worked.end; door = now.door })
+      → (worked : HasWorked state visits traffic marks faults given_back door_faults kind opened now) → SawOnly published events now
+      → Serves seat_of visits traffic marks faults given_back door_faults kind published events (post_at state station)
+      (record { end = worked.end; door = now.door; left = post_at state now.station })
   serves_one station opened now stands worked saw =
       record {
         told = worked.told;
         given = given_back opened.door;
         unused = stands.unused;
-        is_theirs = worked.same_kind ∙ stands.is_theirs;
+        is_theirs = worked.same_kind ∙ (stands.is_theirs ∙ ap (λ (one : DoorKind). Some one) (kinds station));
         works = works_for station now.station worked.end opened.door now.door worked.told stands.fresh
-            (subst (λ (at : Station J X). WorksAt traffic marks faults given_back door_faults goes worked.end at now.station
+            (subst (λ (at : Station J X). WorksAt state visits traffic marks faults given_back door_faults worked.end at now.station
             opened.door now.door unasked worked.told) stands.station_is worked.works) saw;
       }
 
   -- what a crew did that has ended
   pub record Ended (stations : List (Station J X)) (now : List (Worker J E X)) : Type 0 where
-    pub crew : List (EndedWorker E)
-    pub serves : AllZip (Serves traffic marks faults given_back door_faults kind published) (map post_at stations) crew
+    pub crew : List (EndedWorker S E)
+    pub serves : AllZip (Serves seat_of visits traffic marks faults given_back door_faults kind published events)
+        (map (post_at state) stations) crew
     pub doors : doors_of crew ≡ map door_of now
     pub lacks : lacks_memory (ends_of crew) ≡ list_any worker_lacked now
-    pub duties : AllZip goes (duties_in (map duty_at stations)) (duties_of now)
+    pub left : AreStatesOf state (duties_of now) (left_by crew)
 
-  goes_one : (station now : Station J X) (end : WorkerEnd) (door door_now : E) (told : StopsTold) (some more : List (Option X))
-      → WorksAt traffic marks faults given_back door_faults goes end station now door door_now unasked told
-      → AllZip goes (duties_in some) (duties_in more) → AllZip goes (duties_in (duty_at station ∷ some)) (duties_in (duty_at now ∷ more))
-  goes_one (Clients seat duty) (Clients seat_now duty_now) end door door_now told some more (works, went_on) all = (went_on, all)
-  goes_one Agents Agents end door door_now told some more works all = all
-  goes_one (Clients seat duty) Agents end door door_now told some more works all = absurd works
-  goes_one Agents (Clients seat duty) end door door_now told some more works all = absurd works
+  left_one : (station : Station J X) (states : List S) (more : List (Option X)) → AreStatesOf state (duties_in more) states
+      → AreStatesOf state (duties_in (duty_at station ∷ more)) (option_to_list (post_at state station) ++ states)
+  left_one (Clients seat duty) states more (seats, long, is) =
+      (seat ∷ seats, ap (λ (n : ℕ). suc n) long, ap (λ (list : List S). state seat duty ∷ list) is)
+  left_one Agents states more left = left
 
   pub all_ended : (stations : List (Station J X)) (opened now : List (Worker J E X))
       → AllZip (StandsAt given_back door_faults kind) stations opened
-      → AllZip (HasWorked traffic marks faults given_back door_faults goes kind) opened now
-      → AllByRecursion (SawOnly published) now → Ended stations now
-  all_ended [] [] [] stand worked saw = record { crew = []; serves = tt; doors = refl; lacks = refl; duties = tt }
+      → AllZip (HasWorked state visits traffic marks faults given_back door_faults kind) opened now
+      → AllByRecursion (SawOnly published events) now → Ended stations now
+  all_ended [] [] [] stand worked saw = record { crew = []; serves = tt; doors = refl; lacks = refl; left = ([], refl, refl) }
   all_ended [] [] (w ∷ now) stand worked saw = absurd worked
   all_ended [] (o ∷ opened) now stand worked saw = absurd stand
   all_ended (s ∷ stations) [] now stand worked saw = absurd stand
@@ -194,13 +206,11 @@ module _ {L J E X : Type 0} (traffic : L → Option Traffic) (marks : L → Link
   all_ended (s ∷ stations) (o ∷ opened) (w ∷ now) (stands, stand) (worked, all) (saw, more) =
       let rest = all_ended stations opened now stand all more in
       record {
-        crew = record { end = worked.end; door = w.door } ∷ rest.crew;
+        crew = record { end = worked.end; door = w.door; left = post_at state w.station } ∷ rest.crew;
         serves = (serves_one s o w stands worked saw, rest.serves);
         doors = ap (λ (list : List E). w.door ∷ list) rest.doors;
         lacks = λ i. ap lacked (sym worked.ended) i || rest.lacks i;
-        duties = goes_one s w.station worked.end o.door w.door worked.told (map duty_at stations) (map duty_of now)
-            (subst (λ (at : Station J X). WorksAt traffic marks faults given_back door_faults goes worked.end at w.station
-            o.door w.door unasked worked.told) stands.station_is worked.works) rest.duties;
+        left = left_one w.station (left_by rest.crew) (map duty_of now) rest.left;
       }
 
 -- by the worker of administrators alone
@@ -210,41 +220,49 @@ alone_first alone false rest is none = is ∙ sym none
 
 -- ---- doors that failed
 
-module _ {L E : Type 0} (traffic : L → Option Traffic) (marks : L → LinkMarks) (faults : L → ℕ)
+module _ {S L E : Type 0} (seat_of : S → SeatState) (visits : S → Visit L → S → Type 0)
+    (traffic : L → Option Traffic) (marks : L → LinkMarks) (faults : L → ℕ)
     (given_back : E → Option (List L)) (door_faults : E → ℕ) (kind : E → Option DoorKind) (published : List DeskState)
-    (before after : ℕ) where
-  counted : (post : Option SeatState) (end : WorkerEnd) (told : StopsTold) (given : Option (List L)) (door : E)
-      → WorksFor traffic marks faults given_back door_faults kind published post end told given door → door_faults door ≡ door_faults_after end 0
-  counted (Some seat) end told given door (seat_now, saw, works) = works.counted
-  counted None end told given door works = works.counted
+    (events : List Event) (before after : ℕ) where
+  abbrev For : Option S → Option S → WorkerEnd → StopsTold → Option (List L) → E → Type 0
+  For = WorksFor seat_of visits traffic marks faults given_back door_faults kind published events
 
-  never_alone : (post : Option SeatState) (end : WorkerEnd) (told : StopsTold) (given : Option (List L)) (door : E)
-      → WorksFor traffic marks faults given_back door_faults kind published post end told given door → is_alone end ≡ false
-  never_alone (Some seat) Alone told given door (seat_now, saw, works) = absurd works.ending
-  never_alone None Alone told given door works = absurd works.ending
-  never_alone post Stopped told given door works = refl
-  never_alone post DoorFailed told given door works = refl
-  never_alone post Memory told given door works = refl
-  never_alone post Unstarted told given door works = refl
+  counted : (post left : Option S) (end : WorkerEnd) (told : StopsTold) (given : Option (List L)) (door : E)
+      → For post left end told given door → door_faults door ≡ door_faults_after end 0
+  counted (Some start) (Some now) end told given door (saw, knew, works) = works.counted
+  counted None None end told given door works = works.counted
+  counted (Some start) None end told given door works = absurd works
+  counted None (Some now) end told given door works = absurd works
+
+  never_alone : (post left : Option S) (end : WorkerEnd) (told : StopsTold) (given : Option (List L)) (door : E)
+      → For post left end told given door → is_alone end ≡ false
+  never_alone (Some start) (Some now) Alone told given door (saw, knew, works) = absurd works.ending
+  never_alone None None Alone told given door works = absurd works.ending
+  never_alone (Some start) None Alone told given door works = absurd works
+  never_alone None (Some now) Alone told given door works = absurd works
+  never_alone post left Stopped told given door works = refl
+  never_alone post left DoorFailed told given door works = refl
+  never_alone post left Memory told given door works = refl
+  never_alone post left Unstarted told given door works = refl
 
   -- no worker of clients or of agents ends alone
-  pub none_alone : (posts : List (Option SeatState)) (crew : List (EndedWorker E))
-      → AllZip (Serves traffic marks faults given_back door_faults kind published) posts crew → is_deserted (ends_of crew) ≡ false
+  pub none_alone : (posts : List (Option S)) (crew : List (EndedWorker S E))
+      → AllZip (Serves seat_of visits traffic marks faults given_back door_faults kind published events) posts crew → is_deserted (ends_of crew) ≡ false
   none_alone [] [] serve = refl
   none_alone [] (w ∷ crew) serve = absurd serve
   none_alone (post ∷ posts) [] serve = absurd serve
   none_alone (post ∷ posts) (w ∷ crew) (serves, serve) =
-      λ i. never_alone post w.end serves.told serves.given w.door serves.works i || none_alone posts crew serve i
+      λ i. never_alone post w.left w.end serves.told serves.given w.door serves.works i || none_alone posts crew serve i
 
   -- Each door of a worker that ended since its door failed raised the count of its net.
-  pub failed_all : (posts : List (Option SeatState)) (crew : List (EndedWorker E))
-      → AllZip (Serves traffic marks faults given_back door_faults kind published) posts crew
+  pub failed_all : (posts : List (Option S)) (crew : List (EndedWorker S E))
+      → AllZip (Serves seat_of visits traffic marks faults given_back door_faults kind published events) posts crew
       → AllByRecursion (λ (door : E). CountsDoor (door_faults door) before after) (doors_of crew)
       → AllByRecursion (λ (end : WorkerEnd). end ≡ DoorFailed → HasRisen before after) (ends_of crew)
   failed_all [] [] serve counts = tt
   failed_all [] (w ∷ crew) serve counts = absurd serve
   failed_all (post ∷ posts) [] serve counts = absurd serve
   failed_all (post ∷ posts) (w ∷ crew) (serves, serve) (counts, more) = (
-    (λ is. counts (counted post w.end serves.told serves.given w.door serves.works ∙ ap (λ (end : WorkerEnd). door_faults_after end 0) is)),
+    (λ is. counts (counted post w.left w.end serves.told serves.given w.door serves.works ∙ ap (λ (end : WorkerEnd). door_faults_after end 0) is)),
     failed_all posts crew serve more,
   )

@@ -2,6 +2,8 @@ pub mod Closing
 pub mod Completing
 pub mod Concluding
 pub mod Crewing
+pub mod Ending
 pub mod Folder
+pub mod Left
 pub mod OneList
 pub mod Sent

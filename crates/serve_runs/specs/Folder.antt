@@ -36,7 +36,7 @@ pub record KeepsService (entry : DiskState) (before after : DiskSeen) (start : D
   pub behind : (map : FileMap) → MayLeave now map → StandsBehind mounted frames map
 
 -- The policy state is what the first few of the frames made of the one at the start: a command that was answered as done was
--- applied, and each other was or was not.
+-- applied, and each other was or was not, where it would have been accepted.
 abbrev pub IsMadeBy : DeskState → List Exchange → DeskState → Type 0
 IsMadeBy start frames desk =
     (front : List Exchange) × (back : List Exchange) × (frames ≡ front ++ back) × LeadsTo (Ok start) front (Ok desk)

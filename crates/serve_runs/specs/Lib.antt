@@ -1,4 +1,5 @@
 pub mod Crew
+pub mod Duties
 pub mod Serving
 pub mod Folder
 pub mod OneList

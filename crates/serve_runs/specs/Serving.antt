@@ -8,14 +8,18 @@ use Rattle.link_ports.specs.LinkMarks.{LinkMarks}
 use Rattle.link_ports.specs.declared.door_kinds.DoorKind.{DoorKind}
 use Rattle.link_ports.specs.declared.door_kinds.DoorKind.TheVariants.{Admin}
 use Rattle.desk_state.specs.DeskState.{DeskState}
+use Rattle.live_roll.specs.declared.events.Event.{Event}
+use Rattle.live_roll.specs.Events.{NoneBelow}
+use Rattle.live_desk.specs.Seat.{SeatState}
+use Rattle.admin_door.specs.Hanging.{AreHung}
 use Rattle.server_hall.specs.StopNews.{StopsTold, unasked}
-use Rattle.desk_server.specs.Visit.{Works}
+use Rattle.desk_server.specs.Visit.{Visit, Works}
 use Rattle.desk_server.specs.Administrators.{Office, VisitsOffice, EndsOffice}
 use Rattle.desk_server.specs.declared.workers.WorkerEnd.{WorkerEnd}
 use Rattle.desk_server.specs.declared.workers.WorkerEnd.TheVariants.{Stopped}
 use Rattle.run_endings.specs.declared.endings.Ending.{Ending}
 use Rattle.run_endings.specs.declared.endings.Ending.TheVariants.{Done, Memory, Disk, Net}
-use Rattle.serve_runs.specs.Crew.{EndedWorker, ends_of, doors_of, lacks_memory, is_deserted, posts, Serves}
+use Rattle.serve_runs.specs.Crew.{EndedWorker, ends_of, doors_of, lacks_memory, is_deserted, posts_with, Serves}
 
 -- ---- counts
 
@@ -68,13 +72,17 @@ abbrev pub ClosesOpened : {E : Type 0} → (E → Option DoorKind) → Option (L
 ClosesOpened {E} kind closed closed_now = (closed_now ≡ closed)
     ⊎ ((door : E) × (others : List E) × (kind door ≡ Some Admin) × ClosesDoors closed (door ∷ others) closed_now)
 
--- A service served administrators, one connection after the other, each from the state that the one before it left. Beside them so
--- many workers of clients, and nine of agents, served at doors of their own, and all have ended. What each of clients was answered
--- by is a front of `last.published`, the one list of states that administrators made. A worker that was unstarted served
--- nobody: so it is with that of administrators where not all workers had threads. It closed all its doors: first
--- that for administrators, and then those of the workers in their order. Each has its links back.
-pub record ServesAll {L E : Type 0} (traffic : L → Option Traffic) (marks : L → LinkMarks) (faults : L → ℕ)
-    (given_back : E → Option (List L)) (door_faults : E → ℕ) (kind : E → Option DoorKind) (workers : ℕ)
+-- A service served administrators, one connection after the other, each from the state that the one before it left. Beside them
+-- workers of clients, which began with these, and nine of agents, served at doors of their own, and all have ended. What each of
+-- clients was answered by is a front of `last.published`, the one list of states that administrators made. What happened in the roll,
+-- `events`, is one log too, in which nobody who entered behind a disconnect entered below its commit. Each client entered in it: what
+-- its seat knew then is a front of the log, and ends with its entry. Of each command that was answered as done a disconnect up to its
+-- commit, or a later one, stands in it. A worker that was unstarted served nobody: so it is with that of administrators where not all
+-- workers had threads. The service closed all its doors: first that for administrators, and then those of the workers in their order.
+-- Each has its links back.
+pub record ServesAll {S L E : Type 0} (seat_of : S → SeatState) (visits : S → Visit L → S → Type 0)
+    (traffic : L → Option Traffic) (marks : L → LinkMarks) (faults : L → ℕ)
+    (given_back : E → Option (List L)) (door_faults : E → ℕ) (kind : E → Option DoorKind) (starts : List S)
     (ending : Ending) (start : DeskState) (disk disk_now net net_now : ℕ) (closed closed_now : Option (List E)) : Type 0 where
   pub end : WorkerEnd
   pub last : Office
@@ -86,7 +94,11 @@ pub record ServesAll {L E : Type 0} (traffic : L → Option Traffic) (marks : L 
   pub works : Works (VisitsOffice traffic marks faults) (EndsOffice unasked told) marks faults end (opening start disk) last
       given (given_back door) 0 (door_faults door)
   pub counted : disk_now ≡ last.faults
-  pub crew : List (EndedWorker E)
-  pub serves : AllZip (Serves traffic marks faults given_back door_faults kind last.published) (posts workers) crew
+  pub events : List Event
+  pub none_below : NoneBelow events
+  pub hung : AreHung events last.frames
+  pub crew : List (EndedWorker S E)
+  pub serves : AllZip (Serves seat_of visits traffic marks faults given_back door_faults kind last.published events)
+      (posts_with starts) crew
   pub doors : ClosesDoors closed (door ∷ doors_of crew) closed_now
   pub ends : EndsService ending (end ∷ ends_of crew) disk disk_now net net_now

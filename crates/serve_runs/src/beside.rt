@@ -13,7 +13,7 @@ use desk_keeper::Keeper;
 use desk_ports::Disk;
 use desk_server::{Notes, WorkerEnd, work_for_administrators};
 use link_ports::{Dial, Door, DoorKind, HangEnd, Link, Net};
-use live_desk::{Naming, Publisher};
+use live_desk::{Event, Events, Front, Naming, Publisher};
 use live_roll::Roll;
 use server_hall::{Locked, QuestionDesk, StopNews};
 use std::alloc::Global;
@@ -45,8 +45,9 @@ pub(crate) fn beside<
     each: &F,
     keeper: &mut Keeper<'_, D>,
     publisher: &mut Publisher<J>,
-    roll: &Mutex<Roll<H>>,
+    roll: &Mutex<Roll<H, J>>,
     questions: &QuestionDesk,
+    hangs: &mut Front<Event, Events<J>>,
     muster: &Muster,
     alarm: &Alarm,
     net: &mut N,
@@ -64,7 +65,7 @@ where
     requires behind { last_commit 0 publisher.old ≤ keeper.old.desk.commit }
     ensures officiates { Officiates D.faults D.state D.moment D.left_since L.traffic L.marks L.faults
         E.given_back E.faults E.kind result
-        keeper.old keeper.new publisher.old publisher.new door.old door.new }
+        keeper.old keeper.new publisher.old publisher.new door.old door.new hangs.new }
     ensures knocks { Knocks N.faults N.closed net.old net.new }
     ensures chore { (turns : ℕ) × C.goes chore.old turns chore.new }
     ensures workers { HaveWorked F.Fn each.now workers.old workers.new }
@@ -78,13 +79,14 @@ where
         requires { last_commit 0 publisher.now ≤ keeper.now.desk.commit }
         ensures officiates { Officiates D.faults D.state D.moment D.left_since L.traffic L.marks L.faults
             E.given_back E.faults E.kind result
-            keeper.entry.now keeper.exit.now publisher.entry.now publisher.exit.now door.entry.now door.exit.now }
+            keeper.entry.now keeper.exit.now publisher.entry.now publisher.exit.now door.entry.now door.exit.now
+            hangs.exit.now }
         ensures knocks { Knocks N.faults N.closed net.entry.now net.exit.now }
         ensures chore { (turns : ℕ) × C.goes chore.entry.now turns chore.exit.now }
     {
         attend(
-            rt, alloc, clients, threads, keeper, publisher, roll, questions, muster, alarm, net,
-            door, notes, chore,
+            rt, alloc, clients, threads, keeper, publisher, roll, questions, hangs, muster, alarm,
+            net, door, notes, chore,
         )
     };
     let ((), end) = join_mut(rt, &mut front, &mut rest);
@@ -125,8 +127,9 @@ fn attend<
     threads: u64,
     keeper: &mut Keeper<'_, D>,
     publisher: &mut Publisher<J>,
-    roll: &Mutex<Roll<H>>,
+    roll: &Mutex<Roll<H, J>>,
     questions: &QuestionDesk,
+    hangs: &mut Front<Event, Events<J>>,
     muster: &Muster,
     alarm: &Alarm,
     net: &mut N,
@@ -143,7 +146,7 @@ where
     requires { last_commit 0 publisher.old ≤ keeper.old.desk.commit }
     ensures officiates { Officiates D.faults D.state D.moment D.left_since L.traffic L.marks L.faults
         E.given_back E.faults E.kind result
-        keeper.old keeper.new publisher.old publisher.new door.old door.new }
+        keeper.old keeper.new publisher.old publisher.new door.old door.new hangs.new }
     ensures knocks { Knocks N.faults N.closed net.old net.new }
     ensures chore { (turns : ℕ) × C.goes chore.old turns chore.new }
 {
@@ -155,10 +158,12 @@ where
         requires { last_commit 0 publisher.now ≤ keeper.now.desk.commit }
         ensures { Officiates D.faults D.state D.moment D.left_since L.traffic L.marks L.faults
             E.given_back E.faults E.kind result
-            keeper.entry.now keeper.exit.now publisher.entry.now publisher.exit.now door.entry.now door.exit.now }
+            keeper.entry.now keeper.exit.now publisher.entry.now publisher.exit.now door.entry.now door.exit.now
+            hangs.exit.now }
     {
         officiate(
-            rt, alloc, threads, keeper, publisher, roll, questions, muster, alarm, door, notes,
+            rt, alloc, threads, keeper, publisher, roll, questions, hangs, muster, alarm, door,
+            notes,
         )
     };
     let ((), end) = join_mut(rt, &mut watch, &mut office);
@@ -172,8 +177,9 @@ fn officiate<R: Wait + Clock, D: Disk, H: HangEnd, L: Link, E: Door<Link = L>, T
     threads: u64,
     keeper: &mut Keeper<'_, D>,
     publisher: &mut Publisher<J>,
-    roll: &Mutex<Roll<H>>,
+    roll: &Mutex<Roll<H, J>>,
     questions: &QuestionDesk,
+    hangs: &mut Front<Event, Events<J>>,
     muster: &Muster,
     alarm: &Alarm,
     door: &mut E,
@@ -182,7 +188,7 @@ fn officiate<R: Wait + Clock, D: Disk, H: HangEnd, L: Link, E: Door<Link = L>, T
     requires { last_commit 0 publisher.old ≤ keeper.old.desk.commit }
     ensures { Officiates D.faults D.state D.moment D.left_since L.traffic L.marks L.faults
         E.given_back E.faults E.kind result
-        keeper.old keeper.new publisher.old publisher.new door.old door.new }
+        keeper.old keeper.new publisher.old publisher.new door.old door.new hangs.new }
 {
     if !muster.decide(rt, threads) {
         note_short(notes);
@@ -192,7 +198,7 @@ fn officiate<R: Wait + Clock, D: Disk, H: HangEnd, L: Link, E: Door<Link = L>, T
     let mut hall = Locked::new(rt, roll, questions);
     let mut news = StopNews::new();
     let end = work_for_administrators(
-        rt, alloc, keeper, publisher, roll, questions, door, &mut hall, notes, &mut news,
+        rt, alloc, keeper, publisher, roll, questions, hangs, door, &mut hall, notes, &mut news,
     );
     note_end(notes, DoorKind::Admin, end);
     alarm.ring();

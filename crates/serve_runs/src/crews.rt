@@ -1,10 +1,11 @@
 // The workers that run on threads of their own, each at its door.
 ghost use Rattle.std.specs.Prelude.{◌≡◌, ◌+◌, ◌<◌, ◌≤◌, ◌++◌, ◌∷◌, [], length, map, replicate, vec_len, vec_capacity, IfOk, OnOk};
 ghost use Rattle.std.specs.Bool.{OnTrue};
+ghost use mathlib.Core.List.{IsPrefix};
 ghost use Rattle.std.specs.List.{AllByRecursion, list_any};
 ghost use Rattle.std.specs.Option.{option_to_list};
 ghost use Rattle.serve_runs.specs.Crew.{kind_for};
-ghost use Rattle.serve_runs.specs.parts.Crews.{duty_at, duty_of, post_at, stations_with, lacked, worker_lacked};
+ghost use Rattle.serve_runs.specs.parts.Crews.{duty_at, duty_of, seat_at, stations_with, lacked, worker_lacked};
 ghost use Rattle.serve_runs.specs.parts.Crews.{WorksAt, HasWorked, HasSeenOf, SawOnly};
 ghost use Rattle.serve_runs.specs.declared.crews.Station.TheVariants.{Agents};
 
@@ -14,7 +15,7 @@ use crate::telling::{note_alone, note_end};
 use check_monitor::Alarm;
 use desk_server::{ClientDuty, Notes, WorkerEnd, work_for_agents};
 use link_ports::{Door, DoorKind, Gate, HangEnd, Link};
-use live_desk::{Naming, Publisher, Seat};
+use live_desk::{Event, Events, Front, Naming, Publisher, Seat};
 use live_roll::Roll;
 use server_hall::{Hall, Locked, QuestionDesk, StopNews};
 use std::alloc::{AllocError, Global};
@@ -47,13 +48,14 @@ impl<J: Naming, X: ClientDuty> Station<J, X> {
         rt: &R,
         alloc: Global,
         door: &mut D,
-        roll: &Mutex<Roll<<D::Link as Link>::End>>,
+        roll: &Mutex<Roll<<D::Link as Link>::End, J>>,
         questions: &QuestionDesk,
         muster: &Muster,
         gate: &G,
         news: &mut StopNews,
     ) -> WorkerEnd
-        ensures works { WorksAt D.Link.traffic D.Link.marks D.Link.faults D.given_back D.faults X.goes
+        ensures works { WorksAt X.state (X.visits D.Link.traffic D.Link.marks D.Link.faults)
+            D.Link.traffic D.Link.marks D.Link.faults D.given_back D.faults
             result self.old self.new door.old door.new news.old news.new }
         ensures kind { D.kind door.new ≡ D.kind door.old }
     {
@@ -69,12 +71,13 @@ impl<J: Naming, X: ClientDuty> Station<J, X> {
         rt: &R,
         alloc: Global,
         door: &mut D,
-        roll: &Mutex<Roll<<D::Link as Link>::End>>,
+        roll: &Mutex<Roll<<D::Link as Link>::End, J>>,
         questions: &QuestionDesk,
         gate: &G,
         news: &mut StopNews,
     ) -> WorkerEnd
-        ensures works { WorksAt D.Link.traffic D.Link.marks D.Link.faults D.given_back D.faults X.goes
+        ensures works { WorksAt X.state (X.visits D.Link.traffic D.Link.marks D.Link.faults)
+            D.Link.traffic D.Link.marks D.Link.faults D.given_back D.faults
             result self.old self.new door.old door.new news.old news.new }
         ensures kind { D.kind door.new ≡ D.kind door.old }
     {
@@ -88,7 +91,7 @@ impl<J: Naming, X: ClientDuty> Station<J, X> {
 
     /// The kind of its door.
     pub fn kind(&self) -> DoorKind
-        ensures { result ≡ kind_for (post_at self.now) }
+        ensures { result ≡ kind_for (seat_at self.now) }
     {
         match self {
             Station::Clients(_, _) => DoorKind::Client,
@@ -96,12 +99,21 @@ impl<J: Naming, X: ClientDuty> Station<J, X> {
         }
     }
 
-    // Whether as many states were published as its seat has seen, where it serves clients.
-    fn is_covered(&self, publisher: &Publisher<J>) -> bool
-        ensures { OnTrue result (HasSeenOf publisher.now (post_at self.now)) }
+    // Whether as many states were published as its seat has seen, and as many events of the roll are known as it knows,
+    // where it serves clients.
+    fn is_covered(&self, publisher: &Publisher<J>, events: &Front<Event, Events<J>>) -> bool
+        ensures { OnTrue result (HasSeenOf publisher.now events.now (seat_at self.now)) }
     {
         match self {
-            Station::Clients(seat, _) => publisher.covers(seat),
+            Station::Clients(seat, _) => {
+                if !publisher.covers(seat) {
+                    return false;
+                }
+                if !seat.knows_only(events) {
+                    return false;
+                }
+                true
+            }
             Station::Agents => true,
         }
     }
@@ -136,15 +148,15 @@ impl<J: Naming, D: Door, X: ClientDuty> Worker<J, D, X> {
         &mut self,
         rt: &R,
         alloc: Global,
-        roll: &Mutex<Roll<<D::Link as Link>::End>>,
+        roll: &Mutex<Roll<<D::Link as Link>::End, J>>,
         questions: &QuestionDesk,
         muster: &Muster,
         alarm: &Alarm,
         gate: &G,
         notes: &T,
     )
-        ensures { HasWorked D.Link.traffic D.Link.marks D.Link.faults D.given_back D.faults X.goes D.kind
-            self.old self.new }
+        ensures { HasWorked X.state (X.visits D.Link.traffic D.Link.marks D.Link.faults)
+            D.Link.traffic D.Link.marks D.Link.faults D.given_back D.faults D.kind self.old self.new }
     {
         let mut news = StopNews::new();
         let end = self.station.work(
@@ -176,11 +188,12 @@ impl<J: Naming, D: Door, X: ClientDuty> Worker<J, D, X> {
         }
     }
 
-    // Whether as many states were published as its seat has seen, where it serves clients.
-    fn is_covered(&self, publisher: &Publisher<J>) -> bool
-        ensures { OnTrue result (SawOnly publisher.now self.now) }
+    // Whether as many states were published as its seat has seen, and as many events of the roll are known as it knows,
+    // where it serves clients.
+    fn is_covered(&self, publisher: &Publisher<J>, events: &Front<Event, Events<J>>) -> bool
+        ensures { OnTrue result (SawOnly publisher.now events.now self.now) }
     {
-        self.station.is_covered(publisher)
+        self.station.is_covered(publisher, events)
     }
 
     /// Its door, and what it does beside serving clients, where it serves them.
@@ -203,9 +216,9 @@ fn leaves_nobody(kind: DoorKind, end: WorkerEnd, muster: &Muster) -> bool {
 }
 
 // Stops the service.
-fn stop<R: Wait + Clock, H: HangEnd>(
+fn stop<R: Wait + Clock, H: HangEnd, J: Naming>(
     rt: &R,
-    roll: &Mutex<Roll<H>>,
+    roll: &Mutex<Roll<H, J>>,
     questions: &QuestionDesk,
     alarm: &Alarm,
 ) {
@@ -284,32 +297,53 @@ pub(crate) fn lacked_memory<J: Naming, D: Door, X: ClientDuty>(crew: &[Worker<J,
     crew.iter().any(|worker| worker.lacked_memory())
 }
 
-/// Compares what the seats of the crew have seen with what was published, and returns where none has seen more. None can have: but
-/// that only the publisher puts states into the list is known of its code, and not by a proof. So a run of which that is wrong does not
-/// return, and one that returns has compared.
+/// Compares what the seats of the crew have seen with what was published, and what they and the administrators know of the roll's
+/// log with these events; returns where none has seen or knows more. None can: but that only the publisher puts states into the list,
+/// and only the roll events into the log, is known of their code, and not by a proof. So a run of which that is wrong does not return,
+/// and one that returns has compared.
 pub(crate) fn compare<R: Wait, J: Naming, D: Door, X: ClientDuty>(
     rt: &R,
     publisher: &Publisher<J>,
+    events: &Front<Event, Events<J>>,
+    hangs: &Front<Event, Events<J>>,
     crew: &[Worker<J, D, X>],
 )
-    ensures { AllByRecursion (SawOnly publisher.now) crew.now }
+    ensures crew { AllByRecursion (SawOnly publisher.now events.now) crew.now }
+    ensures hangs { IsPrefix hangs.now events.now }
 {
     for _ in rt.forever() {
-        if are_covered(publisher, crew) {
+        if is_one_log(publisher, events, hangs, crew) {
             return;
         }
     }
 }
 
-// Whether none of their seats has seen more than was published.
-fn are_covered<J: Naming, D: Door, X: ClientDuty>(
+// Whether neither the administrators know more than these events, nor a seat, which has seen no more than was published.
+fn is_one_log<J: Naming, D: Door, X: ClientDuty>(
     publisher: &Publisher<J>,
+    events: &Front<Event, Events<J>>,
+    hangs: &Front<Event, Events<J>>,
     crew: &[Worker<J, D, X>],
 ) -> bool
-    ensures { OnTrue result (AllByRecursion (SawOnly publisher.now) crew.now) }
+    ensures crew { OnTrue result (AllByRecursion (SawOnly publisher.now events.now) crew.now) }
+    ensures hangs { OnTrue result (IsPrefix hangs.now events.now) }
+{
+    if !events.covers(hangs) {
+        return false;
+    }
+    are_covered(publisher, events, crew)
+}
+
+// Whether none of their seats has seen more than was published, or knows more than these events.
+fn are_covered<J: Naming, D: Door, X: ClientDuty>(
+    publisher: &Publisher<J>,
+    events: &Front<Event, Events<J>>,
+    crew: &[Worker<J, D, X>],
+) -> bool
+    ensures { OnTrue result (AllByRecursion (SawOnly publisher.now events.now) crew.now) }
 {
     for worker in crew {
-        if !worker.is_covered(publisher) {
+        if !worker.is_covered(publisher, events) {
             return false;
         }
     }

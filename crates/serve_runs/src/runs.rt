@@ -1,8 +1,9 @@
 // `serve W`, and what it shares with a service that does more beside.
-ghost use Rattle.std.specs.Prelude.{◌≡◌, ◌<◌, ◌≤◌, ℕ, length, IfOk, IfSome, IfNone, OnSome};
-ghost use Rattle.std.specs.List.{AllZip};
+ghost use Rattle.std.specs.Prelude.{◌≡◌, ◌<◌, ◌≤◌, ℕ, List, Option, length, IfOk, IfNone, OnSome};
+ghost use Rattle.live_desk.specs.Seat.{new_seats};
 ghost use Rattle.run_endings.specs.Outside.{disk_seen};
-ghost use Rattle.serve_runs.specs.Run.{RunsServe};
+ghost use Rattle.serve_runs.specs.Duties.{states_of, AreLeftOf};
+ghost use Rattle.serve_runs.specs.Run.{RunsServe, RunsPlain};
 ghost use Rattle.serve_runs.specs.Serving.{IsUndone};
 
 use crate::chores::{Chore, NoChore};
@@ -43,7 +44,7 @@ where
     <<N as Dial>::Link as Link>::End: Send,
     requires some { 0 < workers }
     requires most { workers ≤ 64 }
-    ensures { RunsServe N.Door.Link.traffic N.Door.Link.marks N.Door.Link.faults N.Door.given_back N.Door.faults N.Door.kind
+    ensures { RunsPlain N.Door.Link.traffic N.Door.Link.marks N.Door.Link.faults N.Door.given_back N.Door.faults N.Door.kind
         workers result (disk_seen D.state D.moment D.left_since D.faults disk.old)
         (disk_seen D.state D.moment D.left_since D.faults disk.new)
         (N.faults net.old) (N.faults net.new) (N.closed net.old) (N.closed net.new) }
@@ -115,12 +116,14 @@ where
     requires some { 0 < workers }
     requires most { workers ≤ 64 }
     requires duties { length duties.items ≡ workers }
-    ensures runs { RunsServe N.Door.Link.traffic N.Door.Link.marks N.Door.Link.faults
-        N.Door.given_back N.Door.faults N.Door.kind workers result.ending
+    ensures runs { (left : Option (List X.State))
+        × RunsServe X.seat_of (X.visits N.Door.Link.traffic N.Door.Link.marks N.Door.Link.faults)
+        N.Door.Link.traffic N.Door.Link.marks N.Door.Link.faults N.Door.given_back N.Door.faults N.Door.kind
+        (states_of X.state (new_seats workers) duties.items) left result.ending
         (disk_seen D.state D.moment D.left_since D.faults disk.old)
         (disk_seen D.state D.moment D.left_since D.faults disk.new)
-        (N.faults net.old) (N.faults net.new) (N.closed net.old) (N.closed net.new) }
-    ensures duties { IfSome result.duties (λ now. AllZip X.goes duties.items now.items) }
+        (N.faults net.old) (N.faults net.new) (N.closed net.old) (N.closed net.new)
+        × AreLeftOf X.state (λ now. now.items) result.duties left }
     ensures chore { OnSome result.duties ((turns : ℕ) × C.goes chore.old turns chore.new) }
     ensures undone { IfNone result.duties (IsUndone result.ending) }
     ensures untouched { IfNone result.duties (chore.new ≡ chore.old) }

@@ -1,12 +1,15 @@
 // The service, once the folder is mounted.
-ghost use Rattle.std.specs.Prelude.{◌≡◌, ◌+◌, ◌<◌, ◌≤◌, ◌∷◌, [], ℕ, length, map, vec_len, vec_capacity, MatchResult, OnErr, OnOk, IfOk};
+ghost use Rattle.std.specs.Prelude.{◌≡◌, ◌+◌, ◌<◌, ◌≤◌, ◌∷◌, [], ℕ, length, map, vec_len, vec_capacity, MatchResult, OnErr, OnOk};
 ghost use Rattle.std.specs.List.{AllZip};
 ghost use Rattle.desk_keeper.specs.Keeper.{IsSameDisk};
 ghost use Rattle.state_list.specs.Opening.{book_of};
+ghost use Rattle.live_roll.specs.Events.{NoneBelow};
 ghost use Rattle.live_desk.specs.History.{last_commit};
-ghost use Rattle.serve_runs.specs.Crew.{posts, posts_with};
+ghost use Rattle.live_desk.specs.Seat.{new_seats};
+ghost use Rattle.serve_runs.specs.Crew.{posts_with};
+ghost use Rattle.serve_runs.specs.Duties.{states_of};
 ghost use Rattle.serve_runs.specs.Serving.{EndsUnopened, ClosesOpened};
-ghost use Rattle.serve_runs.specs.parts.Crews.{duty_at, duties_in, post_at, HasWorked};
+ghost use Rattle.serve_runs.specs.parts.Crews.{post_at, HasWorked};
 ghost use Rattle.serve_runs.specs.parts.Officiating.{Knocks, Officiates, Staffs};
 
 use crate::beside::beside;
@@ -20,8 +23,8 @@ use desk_keeper::Keeper;
 use desk_ports::Disk;
 use desk_server::{ClientDuty, Notes, WorkerEnd};
 use desk_state::Desk;
-use link_ports::{Dial, Door, DoorKind, Gate, Link, Net};
-use live_desk::{Naming, Opened, Publisher, Seat, start};
+use link_ports::{Dial, Door, DoorKind, Gate, HangEnd, Link, Net};
+use live_desk::{Event, Events, Front, Naming, Opened, Publisher, Seat, start};
 use live_roll::Roll;
 use run_endings::Ending;
 use server_hall::QuestionDesk;
@@ -41,7 +44,8 @@ pub(crate) struct Met<X: Drop> {
 }
 
 /// Serves over the folder of the keeper, by a worker of clients for each of these duties, until the service is stopped, and
-/// does the chore in turns meanwhile. What was met, or why nobody was served. The list of published states is opened here.
+/// does the chore in turns meanwhile. What was met, or why nobody was served. The list of published states and the log of the roll
+/// are opened here.
 pub(crate) fn serve_folder<
     R: Threads + Wait + Clock + Sync,
     D: Disk,
@@ -72,20 +76,22 @@ where
     requires most { workers ≤ 64 }
     requires duties { length duties.items ≡ workers }
     ensures served { MatchResult result
-        (λ met. Staffs D.faults D.state D.moment D.left_since N.Door.Link.traffic N.Door.Link.marks N.Door.Link.faults
-        N.Door.given_back N.Door.faults N.Door.kind (posts workers) met.lacked_memory met.alone
+        (λ met. Staffs X.state X.seat_of (X.visits N.Door.Link.traffic N.Door.Link.marks N.Door.Link.faults)
+        D.faults D.state D.moment D.left_since N.Door.Link.traffic N.Door.Link.marks N.Door.Link.faults
+        N.Door.given_back N.Door.faults N.Door.kind
+        (posts_with (states_of X.state (new_seats workers) duties.items)) met.duties.items met.lacked_memory met.alone
         keeper.old keeper.new (N.faults net.old) (N.faults net.new) (N.closed net.old) (N.closed net.new))
         (λ ending. EndsUnopened ending (N.faults net.old) (N.faults net.new)) }
     ensures closed { OnErr result (ClosesOpened N.Door.kind (N.closed net.old) (N.closed net.new)) }
     ensures kept { OnErr result (keeper.new ≡ keeper.old) }
     ensures same_disk { IsSameDisk keeper.old keeper.new }
-    ensures duties { IfOk result (λ met. AllZip X.goes duties.items met.duties.items) }
     ensures chore { OnOk result ((turns : ℕ) × C.goes chore.old turns chore.new) }
     ensures untouched { OnErr result (chore.new ≡ chore.old) }
 {
     serve_named::<Brand, R, D, N, G, T, X, C>(
         rt,
         alloc,
+        Opened::new(),
         Opened::new(),
         workers,
         duties,
@@ -98,7 +104,7 @@ where
     )
 }
 
-// The same. The published states are this list, which has no entries yet.
+// The same. The published states are the first list, and what happens in the roll is the second, which have no entries yet.
 fn serve_named<
     J: Naming + Send + Sync,
     R: Threads + Wait + Clock + Sync,
@@ -112,6 +118,7 @@ fn serve_named<
     rt: &R,
     alloc: Global,
     opened: Opened<Desk>,
+    happened: Opened<Event>,
     workers: u32,
     duties: Vec<X>,
     keeper: &mut Keeper<'_, D>,
@@ -128,23 +135,31 @@ where
     <N as Dial>::Link: Send,
     <<N as Dial>::Link as Link>::End: Send,
     requires list { book_of opened ≡ J.book }
+    requires log { book_of happened ≡ J.events }
     requires some { 0 < workers }
     requires most { workers ≤ 64 }
     requires duties { length duties.items ≡ workers }
     ensures served { MatchResult result
-        (λ met. Staffs D.faults D.state D.moment D.left_since N.Door.Link.traffic N.Door.Link.marks N.Door.Link.faults
-        N.Door.given_back N.Door.faults N.Door.kind (posts workers) met.lacked_memory met.alone
+        (λ met. Staffs X.state X.seat_of (X.visits N.Door.Link.traffic N.Door.Link.marks N.Door.Link.faults)
+        D.faults D.state D.moment D.left_since N.Door.Link.traffic N.Door.Link.marks N.Door.Link.faults
+        N.Door.given_back N.Door.faults N.Door.kind
+        (posts_with (states_of X.state (new_seats workers) duties.items)) met.duties.items met.lacked_memory met.alone
         keeper.old keeper.new (N.faults net.old) (N.faults net.new) (N.closed net.old) (N.closed net.new))
         (λ ending. EndsUnopened ending (N.faults net.old) (N.faults net.new)) }
     ensures closed { OnErr result (ClosesOpened N.Door.kind (N.closed net.old) (N.closed net.new)) }
     ensures kept { OnErr result (keeper.new ≡ keeper.old) }
     ensures same_disk { IsSameDisk keeper.old keeper.new }
-    ensures duties { IfOk result (λ met. AllZip X.goes duties.items met.duties.items) }
     ensures chore { OnOk result ((turns : ℕ) × C.goes chore.old turns chore.new) }
     ensures untouched { OnErr result (chore.new ≡ chore.old) }
 {
-    let Ok((publisher, seats, roll)) = start::<J, _, R>(rt, alloc, opened, keeper.desk(), workers)
-    else {
+    let Ok((publisher, seats, roll)) = start::<J, _, R>(
+        rt,
+        alloc,
+        opened,
+        happened,
+        keeper.desk(),
+        workers,
+    ) else {
         return Err(Ending::Memory);
     };
     let mut publisher = publisher;
@@ -185,7 +200,7 @@ fn staff<
     publisher: &mut Publisher<J>,
     seats: Vec<Seat<J>>,
     duties: Vec<X>,
-    roll: Roll<<<N::Door as Door>::Link as Link>::End>,
+    roll: Roll<<<N::Door as Door>::Link as Link>::End, J>,
     net: &mut N,
     gate: &G,
     notes: &T,
@@ -201,14 +216,15 @@ where
     requires published { publisher.old ≡ keeper.old.desk ∷ [] }
     requires seats { length duties.items ≡ length seats.items }
     ensures served { MatchResult result
-        (λ met. Staffs D.faults D.state D.moment D.left_since N.Door.Link.traffic N.Door.Link.marks N.Door.Link.faults
-        N.Door.given_back N.Door.faults N.Door.kind (posts_with seats.items) met.lacked_memory met.alone
+        (λ met. Staffs X.state X.seat_of (X.visits N.Door.Link.traffic N.Door.Link.marks N.Door.Link.faults)
+        D.faults D.state D.moment D.left_since N.Door.Link.traffic N.Door.Link.marks N.Door.Link.faults
+        N.Door.given_back N.Door.faults N.Door.kind
+        (posts_with (states_of X.state seats.items duties.items)) met.duties.items met.lacked_memory met.alone
         keeper.old keeper.new (N.faults net.old) (N.faults net.new) (N.closed net.old) (N.closed net.new))
         (λ ending. EndsUnopened ending (N.faults net.old) (N.faults net.new)) }
     ensures closed { OnErr result (ClosesOpened N.Door.kind (N.closed net.old) (N.closed net.new)) }
     ensures kept { OnErr result (keeper.new ≡ keeper.old) }
     ensures same_disk { IsSameDisk keeper.old keeper.new }
-    ensures duties { IfOk result (λ met. AllZip X.goes duties.items met.duties.items) }
     ensures chore { OnOk result ((turns : ℕ) × C.goes chore.old turns chore.new) }
     ensures untouched { OnErr result (chore.new ≡ chore.old) }
 {
@@ -246,7 +262,7 @@ fn open_and_serve<
     stations: Vec<Station<J, X>>,
     crew: Vec<Worker<J, N::Door, X>>,
     room: Vec<X>,
-    roll: Roll<<<N::Door as Door>::Link as Link>::End>,
+    roll: Roll<<<N::Door as Door>::Link as Link>::End, J>,
     net: &mut N,
     gate: &G,
     notes: &T,
@@ -265,14 +281,15 @@ where
     requires empty { room.items ≡ [] }
     requires room { vec_len room + length stations.items ≤ vec_capacity room }
     ensures served { MatchResult result
-        (λ met. Staffs D.faults D.state D.moment D.left_since N.Door.Link.traffic N.Door.Link.marks N.Door.Link.faults
-        N.Door.given_back N.Door.faults N.Door.kind (map post_at stations.items) met.lacked_memory met.alone
+        (λ met. Staffs X.state X.seat_of (X.visits N.Door.Link.traffic N.Door.Link.marks N.Door.Link.faults)
+        D.faults D.state D.moment D.left_since N.Door.Link.traffic N.Door.Link.marks N.Door.Link.faults
+        N.Door.given_back N.Door.faults N.Door.kind
+        (map (post_at X.state) stations.items) met.duties.items met.lacked_memory met.alone
         keeper.old keeper.new (N.faults net.old) (N.faults net.new) (N.closed net.old) (N.closed net.new))
         (λ ending. EndsUnopened ending (N.faults net.old) (N.faults net.new)) }
     ensures closed { OnErr result (ClosesOpened N.Door.kind (N.closed net.old) (N.closed net.new)) }
     ensures kept { OnErr result (keeper.new ≡ keeper.old) }
     ensures same_disk { IsSameDisk keeper.old keeper.new }
-    ensures duties { IfOk result (λ met. AllZip X.goes (duties_in (map duty_at stations.items)) met.duties.items) }
     ensures chore { OnOk result ((turns : ℕ) × C.goes chore.old turns chore.new) }
     ensures untouched { OnErr result (chore.new ≡ chore.old) }
 {
@@ -286,11 +303,12 @@ where
         close_doors(net, room, crew);
         return Err(ending);
     }
-    let end = serve(
-        rt, alloc, clients, keeper, publisher, &mut crew, roll, net, &mut door, gate, notes, alarm,
-        chore,
+    let mut hangs = roll.known().again();
+    let (end, events) = serve(
+        rt, alloc, clients, keeper, publisher, &mut crew, roll, &mut hangs, net, &mut door, gate,
+        notes, alarm, chore,
     );
-    compare(rt, publisher, &crew);
+    compare(rt, publisher, &events, &hangs, &crew);
     net.close(door);
     let lacked = lacked_memory(&crew);
     Ok(Met {
@@ -300,7 +318,8 @@ where
     })
 }
 
-// Serves at open doors: the crew on threads, and the administrators on this one. How their worker ended.
+// Serves at open doors: the crew on threads, and the administrators on this one. How their worker ended, and what happened in the
+// roll.
 fn serve<
     R: Threads + Wait + Clock + Sync,
     J: Naming + Send + Sync,
@@ -318,14 +337,15 @@ fn serve<
     keeper: &mut Keeper<'_, D>,
     publisher: &mut Publisher<J>,
     crew: &mut [Worker<J, E, X>],
-    roll: Roll<<E::Link as Link>::End>,
+    roll: Roll<<E::Link as Link>::End, J>,
+    hangs: &mut Front<Event, Events<J>>,
     net: &mut N,
     door: &mut E,
     gate: &G,
     notes: &T,
     alarm: &Alarm,
     chore: &mut C,
-) -> WorkerEnd
+) -> (WorkerEnd, Front<Event, Events<J>>)
 where
     E::Link: Send,
     <E::Link as Link>::End: Send,
@@ -336,21 +356,36 @@ where
     <<N as Dial>::Link as Link>::End: Send,
     requires { last_commit 0 publisher.old ≤ keeper.old.desk.commit }
     ensures officiates { Officiates D.faults D.state D.moment D.left_since E.Link.traffic E.Link.marks E.Link.faults
-        E.given_back E.faults E.kind result
-        keeper.old keeper.new publisher.old publisher.new door.old door.new }
+        E.given_back E.faults E.kind result.0
+        keeper.old keeper.new publisher.old publisher.new door.old door.new hangs.new }
+    ensures none_below { NoneBelow result.1 }
     ensures knocks { Knocks N.faults N.closed net.old net.new }
     ensures chore { (turns : ℕ) × C.goes chore.old turns chore.new }
-    ensures workers { AllZip (HasWorked E.Link.traffic E.Link.marks E.Link.faults E.given_back E.faults X.goes E.kind) crew.old crew.new }
+    ensures workers { AllZip (HasWorked X.state (X.visits E.Link.traffic E.Link.marks E.Link.faults)
+        E.Link.traffic E.Link.marks E.Link.faults E.given_back E.faults E.kind) crew.old crew.new }
 {
     let roll = Mutex::new(roll);
     let questions = QuestionDesk::new(alloc);
     let muster = Muster::new(clients);
     let each = |_: usize, worker: &mut Worker<J, E, X>|
-        ensures { HasWorked E.Link.traffic E.Link.marks E.Link.faults E.given_back E.faults X.goes E.kind
-            worker.entry.now worker.exit.now }
+        ensures { HasWorked X.state (X.visits E.Link.traffic E.Link.marks E.Link.faults)
+            E.Link.traffic E.Link.marks E.Link.faults E.given_back E.faults E.kind worker.entry.now worker.exit.now }
     { worker.work(rt, alloc, &roll, &questions, &muster, alarm, gate, notes) };
-    beside(
-        rt, alloc, clients, crew, &each, keeper, publisher, &roll, &questions, &muster, alarm, net,
-        door, notes, chore,
-    )
+    let end = beside(
+        rt, alloc, clients, crew, &each, keeper, publisher, &roll, &questions, hangs, &muster,
+        alarm, net, door, notes, chore,
+    );
+    let events = happened(rt, &roll);
+    (end, events)
+}
+
+// What has happened in the roll.
+fn happened<R: Wait, H: HangEnd, J: Naming>(
+    rt: &R,
+    roll: &Mutex<Roll<H, J>>,
+) -> Front<Event, Events<J>>
+    ensures { NoneBelow result }
+{
+    let held = roll.lock(rt);
+    held.known().again()
 }

@@ -1,2 +1,3 @@
 mod Gone
 mod Marks
+pub mod Hangs

@@ -1,8 +1,10 @@
 ghost use Rattle.std.specs.Prelude.{◌≡◌, ◌<◌, ◌∷◌, [], List, Option, Some, false, IsTrue, IfOk, IfErr, OnErr};
+ghost use mathlib.Core.List.{IsPrefix};
 ghost use Rattle.cynara_keys.specs.PolicyResult.{is_agent};
 ghost use Rattle.link_ports.specs.Told.{KeepsTold};
 ghost use Rattle.live_desk.specs.History.{last_commit};
-ghost use Rattle.live_desk.specs.Seat.{with_note};
+ghost use Rattle.live_roll.specs.Events.{HasHung};
+ghost use Rattle.live_desk.specs.Seat.{EntersAt};
 ghost use Rattle.server_hall.specs.Tally.{Tally, after_enter, after_leave, IsRaised, after_hang, after_ask, after_join};
 ghost use Rattle.server_hall.specs.Tally.{after_next, after_answer, after_look};
 ghost use Rattle.server_hall.specs.Tally.{after_part, after_stop, IsNamedForItself};
@@ -16,7 +18,7 @@ use crate::{AskRefusal, NextRefusal, ServiceView};
 use agent_table::{AnswerRefusal, Asked, RegisterRefusal, Taken};
 use cynara_keys::{Kind, Metadata, Question};
 use link_ports::{HangEnd, Link};
-use live_desk::{Naming, Publisher, Seat};
+use live_desk::{Event, Events, Front, Naming, Publisher, Seat};
 use live_roll::{Left, Stopped};
 use std::alloc::{AllocError, Global};
 
@@ -26,6 +28,9 @@ use std::alloc::{AllocError, Global};
 pub trait Hall {
     /// What hangs a connection of a client up.
     type End: HangEnd;
+
+    /// Which service it is of: the names of the list of its published states, and of that of its roll's events.
+    type List: Naming;
 
     /// How often each call was made, how often one found the hall stopped, and the last calls.
     ghost tally: { Self → Tally };
@@ -37,13 +42,13 @@ pub trait Hall {
     ghost told: { Self → Option ServiceTold };
 
     /// A connection enters, in the place of the seat. The seat is told the commit at which it enters, which is
-    /// answered: each commit that was acknowledged before is no higher. Refuses `Stopped`; the end is then dropped, and
-    /// the seat is as before.
-    fn enter<J: Naming>(&mut self, end: Self::End, seat: &mut Seat<J>) -> Result<u64, Stopped>
+    /// answered, and the events of the roll up to this entry: no disconnect among them is for a later commit. Refuses
+    /// `Stopped`; the end is then dropped, and the seat is as before.
+    fn enter(&mut self, end: Self::End, seat: &mut Seat<Self::List>) -> Result<u64, Stopped>
         requires { Self.End.used end ≡ false }
         ensures tally { tally self.new ≡ after_enter result (tally self.old) }
         ensures calls { calls self.new ≡ calls self.old }
-        ensures told { IfOk result (λ note. seat.new ≡ with_note note seat.old) }
+        ensures told { IfOk result (λ note. EntersAt note seat.old seat.new) }
         ensures untold { OnErr result (seat.new ≡ seat.old) };
 
     /// A connection leaves that entered at this commit in the place of this seat. `Hung` where a later commit has hung
@@ -55,10 +60,17 @@ pub trait Hall {
         ensures calls { calls self.new ≡ calls self.old }
         ensures raised { IsRaised entered result };
 
-    /// Hangs up each connection that entered before the last commit of the publisher.
-    fn hang<J: Naming>(&mut self, publisher: &Publisher<J>)
+    /// Hangs up each connection that entered before the last commit of the publisher. The front of the roll's events
+    /// goes on, up to this disconnect.
+    fn hang(
+        &mut self,
+        publisher: &Publisher<Self::List>,
+        hangs: &mut Front<Event, Events<Self::List>>,
+    )
         ensures tally { tally self.new ≡ after_hang (last_commit 0 publisher.now) (tally self.old) }
-        ensures calls { calls self.new ≡ calls self.old };
+        ensures calls { calls self.new ≡ calls self.old }
+        ensures begins { IsPrefix hangs.old hangs.new }
+        ensures up_to { HasHung hangs.new (last_commit 0 publisher.now) };
 
     /// Puts a question to the agent of the kind, and waits for its answer: the number of the question, and the question
     /// that was found under it with the answer. Want of memory is `Put` of it. While it waits it looks each tenth of a

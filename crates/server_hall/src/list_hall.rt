@@ -1,8 +1,10 @@
 ghost use Rattle.std.specs.Prelude.{◌≡◌, ◌<◌, ◌∷◌, [], Some, false, IfOk, IfErr, OnErr};
+ghost use mathlib.Core.List.{IsPrefix};
 ghost use Rattle.link_ports.specs.Told.{KeepsTold};
+ghost use Rattle.live_roll.specs.Events.{HasHung};
 ghost use Rattle.live_roll.specs.Roll.{with_entry, LeavesPlace, HangsTo, StopsAll};
 ghost use Rattle.live_desk.specs.History.{last_commit};
-ghost use Rattle.live_desk.specs.Seat.{with_note};
+ghost use Rattle.live_desk.specs.Seat.{EntersAt};
 ghost use Rattle.server_hall.specs.Tally.{after_enter, after_leave, IsRaised, after_hang, after_ask, after_join};
 ghost use Rattle.server_hall.specs.Tally.{after_next, after_answer, after_part, after_stop, IsNamedForItself};
 ghost use Rattle.server_hall.specs.Told.{AppendsCalls};
@@ -22,30 +24,38 @@ use crate::{AskRefusal, Hall, NextRefusal};
 use agent_table::{AnswerRefusal, Asked, PutRefusal, Questions, RegisterRefusal, Taken};
 use cynara_keys::{Kind, Metadata, Question};
 use link_ports::{HangEnd, Link};
-use live_desk::{Naming, Publisher, Seat};
+use live_desk::{Event, Events, Front, Naming, Publisher, Seat};
 use live_roll::{Left, Roll, Stopped};
 use std::alloc::{AllocError, Global};
 use std::marker::Model;
 use std::snapshot::Snapshot;
+use std::sync::Wait;
 
 /// A hall in memory, for tests: a roll, and a list of answers to `ask`, `join`, `next`, `answer` and `is_open`, of
 /// which each of these calls takes the next one. Where that is an answer to another call, or none is left, the list
 /// counts as used up from then on: such a call counts a stop and answers `Stopped`, `answer` refuses, and no question
 /// is open. It tells its calls until then. `ask` and `next` look first, once, whether the link is up. Where it is not
 /// they take no answer, and refuse `Withdrawn` of number 0 and `Left`. `service` tells of the roll and of a table that
-/// no other call touches.
+/// no other call touches. It keeps the runtime.
 #[derive(Drop)]
-pub struct ListHall<H: HangEnd> {
+pub struct ListHall<R: Wait + Drop, H: HangEnd, J: Naming>
+where
+    Events<J>: Naming,
+{
+    rt: R,
     // The next one is the last.
     answers: Vec<HallAnswer>,
     table: Questions,
-    roll: Roll<H>,
+    roll: Roll<H, J>,
     tally: HallTally,
     // None once the answers are used up.
     calls: Option<Vec<HallCall>>,
 }
 
-impl<H: HangEnd> Model for ListHall<H> {
+impl<R: Wait + Drop, H: HangEnd, J: Naming> Model for ListHall<R, H, J>
+where
+    Events<J>: Naming,
+{
     ghost use Rattle.std.specs.Option.{option_map};
     ghost use Rattle.server_hall.specs.ListHall.{HeldHall};
 
@@ -60,21 +70,23 @@ impl<H: HangEnd> Model for ListHall<H> {
     } };
 }
 
-impl<H: HangEnd> ListHall<H> {
+impl<R: Wait + Drop, H: HangEnd, J: Naming> ListHall<R, H, J> {
     /// A hall with this roll, a table with no agent, and these answers in turn. Takes room for as many calls. An answer
     /// `Put` of the table's `Stopped` stands for `Stopped`, and so do `Withdrawn` and `Left`, which no link gets that
     /// is up.
     pub fn new(
+        rt: R,
         alloc: Global,
         answers: Vec<HallAnswer>,
-        roll: Roll<H>,
-    ) -> Result<ListHall<H>, AllocError>
+        roll: Roll<H, J>,
+    ) -> Result<ListHall<R, H, J>, AllocError>
         ensures { IfOk result (IsNewHall roll) }
     {
         let calls = Vec::with_capacity(alloc, answers.len())?;
         let mut answers = answers;
         answers.reverse();
         Ok(ListHall {
+            rt,
             answers,
             table: Questions::new(alloc),
             roll,
@@ -84,7 +96,7 @@ impl<H: HangEnd> ListHall<H> {
     }
 
     /// The same hall with this table, of whose agents `service` tells.
-    pub fn with_table(self, table: Questions) -> ListHall<H>
+    pub fn with_table(self, table: Questions) -> ListHall<R, H, J>
         ensures { result ≡ record self { table = table } }
     {
         let mut hall = self;
@@ -100,7 +112,7 @@ impl<H: HangEnd> ListHall<H> {
     }
 
     /// Its roll.
-    pub fn roll(&self) -> &Roll<H>
+    pub fn roll(&self) -> &Roll<H, J>
         ensures { result.now ≡ self.now.roll }
     {
         &self.roll
@@ -291,8 +303,10 @@ fn named(refusal: AskRefusal) -> AskRefusal
     }
 }
 
-impl<H: HangEnd> Hall for ListHall<H> {
+impl<R: Wait + Drop, H: HangEnd, J: Naming> Hall for ListHall<R, H, J> {
     type End = H;
+
+    type List = J;
 
     ghost tally = { λ hall. hall.tally };
 
@@ -300,11 +314,11 @@ impl<H: HangEnd> Hall for ListHall<H> {
 
     ghost told = { λ hall. Some (service_of hall.table hall.roll) };
 
-    fn enter<J: Naming>(&mut self, end: H, seat: &mut Seat<J>) -> Result<u64, Stopped>
+    fn enter(&mut self, end: H, seat: &mut Seat<J>) -> Result<u64, Stopped>
         requires { H.used end ≡ false }
         ensures tally { self.new.tally ≡ after_enter result self.old.tally }
         ensures calls { self.new.calls ≡ self.old.calls }
-        ensures told { IfOk result (λ note. seat.new ≡ with_note note seat.old) }
+        ensures told { IfOk result (λ note. EntersAt note seat.old seat.new) }
         ensures untold { OnErr result (seat.new ≡ seat.old) }
 
         // More than any hall promises: what it makes of the roll.
@@ -312,7 +326,7 @@ impl<H: HangEnd> Hall for ListHall<H> {
             (λ note. (note ≡ self.old.roll.note) × (self.new.roll ≡ with_entry seat.old.number end self.old.roll)) }
         ensures kept { OnErr result (self.new.roll ≡ self.old.roll) }
     {
-        let call = enter_roll(&mut self.roll, end, seat);
+        let call = enter_roll(&self.rt, &mut self.roll, end, seat);
         let entered = call.outcome();
         self.tally.count_enter(call);
         entered
@@ -334,14 +348,16 @@ impl<H: HangEnd> Hall for ListHall<H> {
         left
     }
 
-    fn hang<J: Naming>(&mut self, publisher: &Publisher<J>)
+    fn hang(&mut self, publisher: &Publisher<J>, hangs: &mut Front<Event, Events<J>>)
         ensures tally { self.new.tally ≡ after_hang (last_commit 0 publisher.now) self.old.tally }
         ensures calls { self.new.calls ≡ self.old.calls }
+        ensures begins { IsPrefix hangs.old hangs.new }
+        ensures up_to { HasHung hangs.new (last_commit 0 publisher.now) }
 
         // More than any hall promises: what it makes of the roll.
         ensures hung { HangsTo H.used (last_commit 0 publisher.now) self.old.roll self.new.roll }
     {
-        let call = hang_roll(&mut self.roll, publisher);
+        let call = hang_roll(&self.rt, &mut self.roll, publisher, hangs);
         self.tally.note_hang(call);
     }
 

@@ -9,7 +9,7 @@ use crate::{AskRefusal, Hall, NextRefusal};
 use agent_table::{AnswerRefusal, Asked, Questions, RegisterRefusal, Taken};
 use cynara_keys::{Kind, Metadata, Question};
 use link_ports::{HangEnd, Link};
-use live_desk::{Naming, Publisher, Seat};
+use live_desk::{Event, Events, Front, Naming, Publisher, Seat};
 use live_roll::{Left, Roll, Stopped};
 use std::alloc::{AllocError, Global};
 use std::snapshot::Snapshot;
@@ -41,16 +41,23 @@ impl QuestionDesk {
 /// The hall over a locked roll and a locked table. It keeps the runtime, and counts the calls that are made by way of
 /// it. It tells no list of its calls.
 #[derive(Drop)]
-pub struct Locked<'a, R: Wait + Clock + Drop, H: HangEnd> {
+pub struct Locked<'a, R: Wait + Clock + Drop, H: HangEnd, J: Naming>
+where
+    Events<J>: Naming,
+{
     rt: R,
-    roll: &'a Mutex<Roll<H>>,
+    roll: &'a Mutex<Roll<H, J>>,
     questions: &'a QuestionDesk,
     tally: HallTally,
 }
 
-impl<'a, R: Wait + Clock + Drop, H: HangEnd> Locked<'a, R, H> {
+impl<'a, R: Wait + Clock + Drop, H: HangEnd, J: Naming> Locked<'a, R, H, J> {
     /// The hall over these locks, by way of which no call was made. Takes no memory.
-    pub fn new(rt: R, roll: &'a Mutex<Roll<H>>, questions: &'a QuestionDesk) -> Locked<'a, R, H>
+    pub fn new(
+        rt: R,
+        roll: &'a Mutex<Roll<H, J>>,
+        questions: &'a QuestionDesk,
+    ) -> Locked<'a, R, H, J>
         ensures { result.tally ≡ no_calls }
     {
         Locked {
@@ -69,8 +76,10 @@ impl<'a, R: Wait + Clock + Drop, H: HangEnd> Locked<'a, R, H> {
     }
 }
 
-impl<'a, R: Wait + Clock + Drop, H: HangEnd> Hall for Locked<'a, R, H> {
+impl<'a, R: Wait + Clock + Drop, H: HangEnd, J: Naming> Hall for Locked<'a, R, H, J> {
     type End = H;
+
+    type List = J;
 
     ghost tally = { λ hall. hall.tally };
 
@@ -79,9 +88,9 @@ impl<'a, R: Wait + Clock + Drop, H: HangEnd> Hall for Locked<'a, R, H> {
     // What stands under the locks no clause exposes. `view_under` says what is told of it while they are held.
     ghost told = { λ hall. None };
 
-    fn enter<J: Naming>(&mut self, end: H, seat: &mut Seat<J>) -> Result<u64, Stopped> {
+    fn enter(&mut self, end: H, seat: &mut Seat<J>) -> Result<u64, Stopped> {
         let mut roll = self.roll.lock(&self.rt);
-        let call = enter_roll(&mut *roll, end, seat);
+        let call = enter_roll(&self.rt, &mut *roll, end, seat);
         drop(roll);
         let entered = call.outcome();
         self.tally.count_enter(call);
@@ -97,9 +106,9 @@ impl<'a, R: Wait + Clock + Drop, H: HangEnd> Hall for Locked<'a, R, H> {
         left
     }
 
-    fn hang<J: Naming>(&mut self, publisher: &Publisher<J>) {
+    fn hang(&mut self, publisher: &Publisher<J>, hangs: &mut Front<Event, Events<J>>) {
         let mut roll = self.roll.lock(&self.rt);
-        let call = hang_roll(&mut *roll, publisher);
+        let call = hang_roll(&self.rt, &mut *roll, publisher, hangs);
         drop(roll);
         self.tally.note_hang(call);
     }

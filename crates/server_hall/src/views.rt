@@ -8,6 +8,7 @@ use crate::locked::QuestionDesk;
 use agent_table::Questions;
 use cynara_keys::Kind;
 use link_ports::HangEnd;
+use live_desk::Naming;
 use live_roll::Roll;
 use std::alloc::{AllocError, Global};
 use std::sync::{Mutex, MutexGuard, Wait};
@@ -22,10 +23,10 @@ pub struct ServiceView {
 }
 
 /// What there is to tell of this table and this roll, neither of which it changes. Fails for want of memory alone.
-pub fn view_of<H: HangEnd>(
+pub fn view_of<H: HangEnd, J: Naming>(
     alloc: Global,
     table: &Questions,
-    roll: &Roll<H>,
+    roll: &Roll<H, J>,
 ) -> Result<ServiceView, AllocError>
     ensures told { IfOk result (λ view. told_by view ≡ service_of table.now roll.now) }
     ensures rising { IfOk result (λ view. KindsRise view.kinds.items) }
@@ -42,14 +43,14 @@ pub fn view_of<H: HangEnd>(
 
 /// What there is to tell of a table and a roll under their locks, which are handed out still held: so it is said of one
 /// moment. The table's lock is taken first. May wait for both.
-pub(crate) fn view_under<'a, R: Wait, H: HangEnd>(
+pub(crate) fn view_under<'a, R: Wait, H: HangEnd, J: Naming>(
     rt: &R,
     alloc: Global,
     questions: &'a QuestionDesk,
-    roll: &'a Mutex<Roll<H>>,
+    roll: &'a Mutex<Roll<H, J>>,
 ) -> (
     MutexGuard<'a, Questions>,
-    MutexGuard<'a, Roll<H>>,
+    MutexGuard<'a, Roll<H, J>>,
     Result<ServiceView, AllocError>,
 )
     ensures told { IfOk result.2

@@ -1,6 +1,6 @@
 // The rule of the list, and which list it is.
 use logbook::{Gain, Plain, Play, Rule};
-use std::marker::Brand;
+use std::marker::{Brand, PhantomData};
 use std::snapshot::Snapshot;
 
 /// The rule of the list: the shared number is its length.
@@ -51,13 +51,28 @@ impl<S> Plain<Snapshot<S>, S, u64> for Add {
     ghost state = { λ entry. None };
 }
 
-/// Which list it is. Who opens a list picks it, by `Brand`.
+/// Which list it is, and which list of events goes with it. Who opens the two lists picks them, by `Brand`.
 pub trait Naming {
     ghost use Rattle.logbook.specs.Pages.{Book};
 
     ghost book: { Book };
+
+    ghost events: { Book };
 }
 
 impl Naming for Brand {
     ghost book = { record { number = 0; log_name = 0; cells_name = 0 } };
+
+    ghost events = { record { number = 0; log_name = 0; cells_name = 0 } };
+}
+
+/// Names the list of events that goes with the list of this name. It is a name alone: there is no value of it.
+pub struct Events<J> {
+    of: PhantomData<J>,
+}
+
+impl<J: Naming> Naming for Events<J> {
+    ghost book = { J.events };
+
+    ghost events = { J.events };
 }

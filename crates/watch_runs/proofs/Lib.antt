@@ -1,2 +1,4 @@
 pub mod Lines
 pub mod Recorders
+pub mod Running
+pub mod Completing

@@ -1,5 +1,5 @@
 -- The last line of a run behind its lines.
-use Rattle.std.proofs.Common.{◌≡◌, ◌∙◌, ◌⊎◌, inl, inr, ℕ, List, [], ◌∷◌, ◌++◌, refl, sym}
+use Rattle.std.proofs.Common.{◌≡◌, ◌∙◌, ◌⊎◌, inl, inr, ℕ, List, [], ◌∷◌, ◌++◌, Option, refl, sym}
 use Rattle.desk_ports.specs.Faults.{next_count}
 use Rattle.desk_ports.proofs.Appends.{Appended-none}
 use Rattle.run_endings.specs.Ending.{source_faults_after}
@@ -7,6 +7,7 @@ use Rattle.run_endings.specs.Outside.{SinkSeen}
 use Rattle.run_endings.specs.Saying.{Said, silence, IsCut, IsTried, WritesAnswers, Writes}
 use Rattle.run_endings.specs.declared.endings.Ending.{Ending}
 use Rattle.run_endings.specs.declared.endings.Ending.TheVariants as ending
+use Rattle.desk_server.specs.Monitored.{Post}
 use Rattle.monitor_journal.specs.declared.writing.Writing.{Writing}
 use Rattle.monitor_journal.specs.declared.writing.Writing.TheVariants.{GoesOn, SinkFailed, OutOfMemory}
 use Rattle.watch_runs.specs.Watching.{Journaled, ending_with, WritesLines, WritesLast}
@@ -66,28 +67,28 @@ last_of_failed before sink after risen last =
     (w.last, w.taken, inl (w.counts ∙ sym risen, w.is_written.1))
 
 -- a sink had failed where the run ends for that
-pub sink_failed : (workers : ℕ) (met : Ending) (writing : Writing) (before sink : SinkSeen) → ending.Sink ≡ ending_with met writing
-    → (met ≡ ending.Sink → ⊥)
-    → Journaled workers met writing before sink → sink.faults ≡ next_count before.faults
-sink_failed workers ending.Done SinkFailed before sink is other (unserved undone none same) = cc
-sink_failed workers ending.Done SinkFailed before sink is other (journaled entries recorders recorded whole known (count, part)) = count
-sink_failed workers ending.Done GoesOn before sink is other lines = cc
-sink_failed workers ending.Done OutOfMemory before sink is other lines = cc
-sink_failed workers ending.Sink writing before sink is other lines = absurd (other refl)
-sink_failed workers ending.Memory writing before sink is other lines = cc
-sink_failed workers ending.Words writing before sink is other lines = cc
-sink_failed workers (ending.Line number) writing before sink is other lines = cc
-sink_failed workers ending.Source writing before sink is other lines = cc
-sink_failed workers ending.Disk writing before sink is other lines = cc
-sink_failed workers ending.Net writing before sink is other lines = cc
-sink_failed workers (ending.Damaged file line) writing before sink is other lines = cc
-sink_failed workers ending.Reply writing before sink is other lines = cc
-sink_failed workers (ending.TooLong size) writing before sink is other lines = cc
+pub sink_failed : (workers : ℕ) (left : Option (List Post)) (met : Ending) (writing : Writing) (before sink : SinkSeen)
+    → ending.Sink ≡ ending_with met writing → (met ≡ ending.Sink → ⊥)
+    → Journaled workers left writing before sink → sink.faults ≡ next_count before.faults
+sink_failed workers left ending.Done SinkFailed before sink is other (unserved none goes_on same) = cc
+sink_failed workers left ending.Done SinkFailed before sink is other (journaled entries posts left_is whole known (count, part)) = count
+sink_failed workers left ending.Done GoesOn before sink is other lines = cc
+sink_failed workers left ending.Done OutOfMemory before sink is other lines = cc
+sink_failed workers left ending.Sink writing before sink is other lines = absurd (other refl)
+sink_failed workers left ending.Memory writing before sink is other lines = cc
+sink_failed workers left ending.Words writing before sink is other lines = cc
+sink_failed workers left (ending.Line number) writing before sink is other lines = cc
+sink_failed workers left ending.Source writing before sink is other lines = cc
+sink_failed workers left ending.Disk writing before sink is other lines = cc
+sink_failed workers left ending.Net writing before sink is other lines = cc
+sink_failed workers left (ending.Damaged file line) writing before sink is other lines = cc
+sink_failed workers left ending.Reply writing before sink is other lines = cc
+sink_failed workers left (ending.TooLong size) writing before sink is other lines = cc
 
 pub last_line_behind : (workers : ℕ) (e : Ending) (before sink after : SinkSeen) → WritesLines workers e before sink → LastLine e sink after
     → WritesLast e sink after
-last_line_behind workers ending.Sink before sink after (met, writing, is, other, lines) last =
-    last_of_failed before.faults sink after (sink_failed workers met writing before sink is other lines) last
+last_line_behind workers ending.Sink before sink after (met, writing, left, is, other, lines) last =
+    last_of_failed before.faults sink after (sink_failed workers left met writing before sink is other lines) last
 last_line_behind workers ending.Done before sink after lines last = last_is ending.Done sink after (λ is. cc) last
 last_line_behind workers ending.Memory before sink after lines last = last_is ending.Memory sink after (λ is. cc) last
 last_line_behind workers ending.Words before sink after lines last = last_is ending.Words sink after (λ is. cc) last

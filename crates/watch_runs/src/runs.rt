@@ -1,15 +1,15 @@
 // `watch W`.
-ghost use Rattle.std.specs.Prelude.{◌≡◌, ◌<◌, ◌≤◌, ℕ, length, IfOk, IfErr};
+ghost use Rattle.std.specs.Prelude.{◌≡◌, ◌<◌, ◌≤◌, ℕ, List, Some, None, length, IfOk, IfErr};
 ghost use Rattle.std.specs.List.{AllZip};
+ghost use Rattle.live_desk.specs.Seat.{new_seats};
 ghost use Rattle.run_endings.specs.Outside.{disk_seen, sink_seen};
-ghost use Rattle.run_endings.specs.declared.endings.Ending.{Ending};
-ghost use Rattle.monitor_journal.specs.declared.writing.Writing.{Writing};
 ghost use Rattle.monitor_journal.specs.declared.writing.Writing.TheVariants.{GoesOn};
 ghost use Rattle.monitor_journal.specs.Journal.{Journals};
-ghost use Rattle.desk_server.specs.Monitored.{RecordsSome};
-ghost use Rattle.serve_runs.specs.Serving.{IsUndone};
+ghost use Rattle.check_monitor.specs.Monitor.{IsSame};
+ghost use Rattle.desk_server.specs.Monitored.{Post, post_of, VisitsWatched};
+ghost use Rattle.serve_runs.specs.Duties.{states_of};
 ghost use Rattle.serve_runs.specs.Run.{RunsServe};
-ghost use Rattle.watch_runs.specs.Watching.{Journaled, ending_with};
+ghost use Rattle.watch_runs.specs.Watching.{recorders_of, RunsWatch};
 
 use crate::endings::ending_with;
 use crate::journals::Journal;
@@ -55,13 +55,11 @@ where
     <<N as Dial>::Link as Link>::End: Send,
     requires some { 0 < workers }
     requires most { workers ≤ 64 }
-    ensures { (met : Ending) × (writing : Writing)
-        × RunsServe N.Door.Link.traffic N.Door.Link.marks N.Door.Link.faults N.Door.given_back N.Door.faults N.Door.kind workers met
-        (disk_seen D.state D.moment D.left_since D.faults disk.old)
+    ensures { RunsWatch N.Door.Link.traffic N.Door.Link.marks N.Door.Link.faults N.Door.given_back N.Door.faults N.Door.kind workers
+        result (disk_seen D.state D.moment D.left_since D.faults disk.old)
         (disk_seen D.state D.moment D.left_since D.faults disk.new)
         (N.faults net.old) (N.faults net.new) (N.closed net.old) (N.closed net.new)
-        × Journaled workers met writing (sink_seen K.taken K.faults sink.old) (sink_seen K.taken K.faults sink.new)
-        × (result ≡ ending_with met writing) }
+        (sink_seen K.taken K.faults sink.old) (sink_seen K.taken K.faults sink.new) }
 {
     let Ok((recorders, reader)) = open(alloc, workers, MOST_ROOM) else {
         return Ending::Memory;
@@ -126,22 +124,24 @@ where
     requires some { 0 < workers }
     requires most { workers ≤ 64 }
     requires recorders { length recorders.items ≡ workers }
-    ensures runs { IfOk result (λ watched.
-        RunsServe N.Door.Link.traffic N.Door.Link.marks N.Door.Link.faults N.Door.given_back N.Door.faults N.Door.kind
-        workers watched.ending
+    ensures runs { IfOk result (λ watched. (posts : List Post)
+        × RunsServe (λ post. post.seat) (VisitsWatched N.Door.Link.traffic N.Door.Link.marks N.Door.Link.faults)
+        N.Door.Link.traffic N.Door.Link.marks N.Door.Link.faults N.Door.given_back N.Door.faults N.Door.kind
+        (states_of post_of (new_seats workers) recorders.items) (Some posts) watched.ending
         (disk_seen D.state D.moment D.left_since D.faults disk.old)
         (disk_seen D.state D.moment D.left_since D.faults disk.new)
-        (N.faults net.old) (N.faults net.new) (N.closed net.old) (N.closed net.new)) }
-    ensures recorders { IfOk result (λ watched. AllZip RecordsSome recorders.items watched.recorders.items) }
+        (N.faults net.old) (N.faults net.new) (N.closed net.old) (N.closed net.new)
+        × (recorders_of posts ≡ watched.recorders.items)) }
+    ensures same { IfOk result (λ watched. AllZip IsSame recorders.items watched.recorders.items) }
     ensures journal { IfOk result (λ watched. (turns : ℕ) × Journals turns reader watched.reader GoesOn watched.writing
         (sink_seen K.taken K.faults sink.old) (sink_seen K.taken K.faults sink.new)) }
     ensures refuses { IfErr result (λ ending.
-        RunsServe N.Door.Link.traffic N.Door.Link.marks N.Door.Link.faults N.Door.given_back N.Door.faults N.Door.kind
-        workers ending
+        RunsServe (λ post. post.seat) (VisitsWatched N.Door.Link.traffic N.Door.Link.marks N.Door.Link.faults)
+        N.Door.Link.traffic N.Door.Link.marks N.Door.Link.faults N.Door.given_back N.Door.faults N.Door.kind
+        (states_of post_of (new_seats workers) recorders.items) None ending
         (disk_seen D.state D.moment D.left_since D.faults disk.old)
         (disk_seen D.state D.moment D.left_since D.faults disk.new)
         (N.faults net.old) (N.faults net.new) (N.closed net.old) (N.closed net.new)) }
-    ensures undone { IfErr result (λ ending. IsUndone ending) }
     ensures untouched { IfErr result (λ ending. sink.new ≡ sink.old) }
 {
     let telling = TellingGate::new(rt, gate, alarm, notes);

@@ -1,19 +1,18 @@
 -- How the answering of frames stands between two of them.
-use Rattle.std.specs.Prelude.{◌≡◌, ◌⊎◌, ℕ, List, [], ◌∷◌, ◌++◌, Option}
+use Rattle.std.specs.Prelude.{◌≡◌, ◌⊎◌, ℕ, List, [], Option}
 use Rattle.desk_ports.specs.FileMap.{FileMap}
 use Rattle.desk_ports.specs.Disk.{DiskState}
 use Rattle.desk_keeper.specs.declared.keeper.Keeper.{Keeper}
-use Rattle.link_ports.specs.Traffic.{Traffic}
 use Rattle.wire_reading.specs.Stream.{Feeding}
 use Rattle.wire_fields.specs.declared.messages.Framed.{Framed}
 use Rattle.wire_fields.specs.declared.messages.Message.{Message}
 use Rattle.wire_fields.specs.declared.messages.Message.TheVariants.{Stop}
 use Rattle.door_frames.specs.Carried.{Carried}
-use Rattle.door_frames.specs.Ending.{EndsSending}
 use Rattle.door_frames.specs.Hearing.{HasHeard}
 use Rattle.door_frames.specs.declared.endings.Ended.{Ended}
 use Rattle.door_frames.specs.declared.endings.Ended.TheVariants.{Stopped}
 use Rattle.admin_door.specs.Answering.{Answers, Refuses}
+use Rattle.admin_door.specs.Due.{IsCutOff}
 use Rattle.admin_door.specs.Serving.{AdminTalk, Exchange, AreAnswered, AreNoStops, exchanges_bytes, frames_of}
 use Rattle.admin_door.specs.Serving.{ended_behind, replies_bytes, Serves}
 use Rattle.admin_door.specs.Running.{RunsOver}
@@ -59,16 +58,6 @@ pub record IsWhole (told : Option DiskState) (framed : Framed) (old now : AdminT
   pub answers : Answers told framed.message old.side now.side replies
   pub sends : SendsMore old now (replies_bytes framed.sequence replies)
   pub faults : now.faults ≡ old.faults
-
--- some replies were sent, and the next was not
-pub record IsCutOff (ended : Ended) (sequence : ℕ) (replies : List Message) (old now : Option Traffic)
-    (before after : ℕ) : Type 0 where
-  pub sent : List Message
-  pub next : Message
-  pub unsent : List Message
-  pub parts : replies ≡ sent ++ next ∷ unsent
-  pub carried : Carried old now [] (replies_bytes sequence sent)
-  pub faults : EndsSending ended before after
 
 -- the frame has no answer
 pub record IsUnheeded (told : Option DiskState) (framed : Framed) (old now : AdminTalk) (ended : Ended) : Type 0 where

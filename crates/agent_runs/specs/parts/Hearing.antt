@@ -1,80 +1,67 @@
--- One message is heard over a link, or none.
-use Rattle.std.specs.Prelude.{◌≡◌, ◌<◌, ℕ, Bool, true, false, List, [], ◌∷◌, ◌++◌, length, Result, Ok, Err}
+-- Bytes are received, and the machine hears them.
+use Rattle.std.specs.Prelude.{◌≡◌, ◌<◌, ◌≤◌, ℕ, true, false, List, [], ◌∷◌, length, Option, Some}
 use Rattle.desk_ports.specs.Faults.{next_count}
-use Rattle.wire_reading.specs.Stream.{Feeding, Hears, IsOpen, unfed}
 use Rattle.wire_fields.specs.declared.messages.Framed.{Framed}
-use Rattle.wire_fields.specs.declared.operations.Heard.{Heard}
-use Rattle.wire_fields.specs.declared.refusals.WireRefusal.TheVariants.{Memory as NoMemory}
-use Rattle.client_connection.specs.Reading.{IsWrong}
-use Rattle.run_endings.specs.declared.endings.Ending.{Ending}
-use Rattle.run_endings.specs.declared.endings.Ending.TheVariants.{Done, Memory, Net, Reply}
+use Rattle.wire_fields.specs.declared.messages.Message.{Message}
+use Rattle.wire_fields.specs.declared.messages.Message.TheVariants.{AgentQuestion, KindTaken}
+use Rattle.wire_fields.specs.declared.operations.Heard.TheVariants.{AgentReplies}
+use Rattle.wire_reading.specs.Stream.{IsOpen}
+use Rattle.client_core.specs.Listening.{Listening}
+use Rattle.client_core.specs.Agent.{Agent, Comes, wanted_at, listening}
+use Rattle.client_core.specs.declared.stages.Open.{Open}
+use Rattle.client_core.specs.declared.stages.AgentStage.{AgentStage}
+use Rattle.client_core.specs.declared.stages.AgentStage.TheVariants as stage
+use Rattle.client_core.specs.declared.steps.Step.{Step}
+use Rattle.client_core.specs.declared.steps.Step.TheVariants as step
 use Rattle.agent_runs.specs.LinkSeen.{LinkSeen, Carries}
-use Rattle.agent_runs.specs.declared.hearing.Stop.{Stop}
-use Rattle.agent_runs.specs.declared.hearing.Stop.TheVariants as stop
+use Rattle.agent_runs.specs.AgentTalk.{GoesOn}
 use Rattle.agent_runs.specs.declared.hearing.Piece.{Piece}
 use Rattle.agent_runs.specs.declared.hearing.Piece.TheVariants as piece
 
--- the feeder holds nothing
-abbrev pub IsUnused : Feeding → Type 0
-IsUnused feeder = feeder ≡ unfed feeder.heard
+-- ---- the machine
 
--- What the bytes are that were received: the one frame of a message, none, less than a frame, or one that is wrong.
-abbrev pub AreHeard : Heard → Result Framed Stop → List ℕ → Type 0
-AreHeard heard (Ok framed) bytes = Hears heard bytes (framed ∷ []) []
-AreHeard heard (Err stop.Ended) bytes = bytes ≡ []
-AreHeard heard (Err stop.Cut) bytes = (0 < length bytes) × IsOpen heard bytes
-AreHeard heard (Err (stop.Wrong refusal)) bytes = IsWrong heard bytes refusal
-AreHeard heard (Err stop.Lost) bytes = IsOpen heard bytes
+-- these bytes of a message are there
+abbrev pub with_bytes : List ℕ → Listening
+with_bytes there = record { side = AgentReplies; bytes = there }
 
--- whether the end of the input was found
-abbrev pub ends_input : Result Framed Stop → Bool
-ends_input (Err stop.Ended) = true
-ends_input (Err stop.Cut) = true
-ends_input result = false
+-- how far the machine is behind these messages, with these bytes of the next one
+abbrev pub IsBehind : List Framed → List ℕ → AgentStage → Type 0
+IsBehind [] there s = s ≡ stage.Registering (with_bytes there)
+IsBehind (first ∷ turns) there s = (asked : Option Open) × (s ≡ stage.Listening asked (with_bytes there))
 
--- how a run ends where no further message is heard
-abbrev pub ending_of : Stop → Ending
-ending_of stop.Ended = Done
-ending_of stop.Cut = Reply
-ending_of (stop.Wrong (NoMemory error)) = Memory
-ending_of (stop.Wrong refusal) = Reply
-ending_of stop.Lost = Net
+-- it hears a message
+pub record IsReady (s : AgentStage) : Type 0 where
+  pub messages : List Framed
+  pub there : List ℕ
+  pub goes_on : GoesOn messages
+  pub unfinished : IsOpen AgentReplies there
+  pub stage_is : IsBehind messages there s
 
--- the count of the link's faults behind it
-abbrev pub count_after_hearing : Result Framed Stop → ℕ → ℕ
-count_after_hearing (Err stop.Lost) count = next_count count
-count_after_hearing result count = count
+-- it is registered, and between two messages
+abbrev pub IsListening : AgentStage → Type 0
+IsListening s = (asked : Option Open) × (s ≡ listening asked)
 
--- what hearing a message did to the link
-pub record HearsNext (heard : Heard) (result : Result Framed Stop) (before after : LinkSeen) : Type 0 where
-  pub bytes : List ℕ
-  pub are_heard : AreHeard heard result bytes
-  pub carried : Carries [] bytes (ends_input result) before after
-  pub faults : after.faults ≡ count_after_hearing result before.faults
+-- What the machine is once it gave a message with this sequence number. A question is to be answered.
+abbrev pub IsPut : Message → ℕ → AgentStage → Type 0
+IsPut (AgentQuestion number question result) sequence s = s ≡ listening (Some (record { number = number; sequence = sequence }))
+IsPut (KindTaken kind) sequence s = Unit {0}
+IsPut message sequence s = IsListening s
 
 -- ---- pieces
 
--- what hearing a piece of the frame under way made of the feeder
-abbrev pub HearsPiece : Piece → Feeding → Feeding → List ℕ → Type 0
-HearsPiece piece.More old new bytes =
-    (new ≡ record old { partial = old.partial ++ bytes }) × IsOpen old.heard new.partial
-HearsPiece (piece.Whole framed) old new bytes =
-    (new ≡ record old { partial = [] }) × Hears old.heard (old.partial ++ bytes) (framed ∷ []) []
-HearsPiece (piece.Wrong refusal) old new bytes = IsWrong old.heard (old.partial ++ bytes) refusal
-HearsPiece other old new bytes = ⊥
-
--- some bytes were received and heard
-pub record Came (result : Piece) (old new : Feeding) (before after : LinkSeen) : Type 0 where
+-- some bytes were received, and so the machine answered them
+pub record Came (answer : Step) (old new : Agent) (link link_after : LinkSeen) : Type 0 where
   pub bytes : List ℕ
   pub some : 0 < length bytes
-  pub heard : HearsPiece result old new bytes
-  pub carried : Carries [] bytes false before after
-  pub faults : after.faults ≡ before.faults
+  pub few : length bytes ≤ wanted_at old.stage
+  pub comes : Comes bytes answer old new
+  pub carried : Carries [] bytes false link link_after
+  pub faults : link_after.faults ≡ link.faults
 
--- what taking a piece from a link made of the feeder and of the link
-abbrev pub TakesPiece : Piece → Feeding → Feeding → LinkSeen → LinkSeen → Type 0
-TakesPiece piece.More old new before after = Came piece.More old new before after
-TakesPiece (piece.Whole framed) old new before after = Came (piece.Whole framed) old new before after
-TakesPiece (piece.Wrong refusal) old new before after = Came (piece.Wrong refusal) old new before after
-TakesPiece piece.Ended old new before after = Carries [] [] true before after × (after.faults ≡ before.faults)
-TakesPiece piece.Lost old new before after = Carries [] [] false before after × (after.faults ≡ next_count before.faults)
+-- what taking a piece made of the machine and of the link
+abbrev pub Takes : Piece → Agent → Agent → LinkSeen → LinkSeen → Type 0
+Takes piece.More old new link link_after = Came step.Wait old new link link_after
+Takes (piece.Whole message) old new link link_after = Came (step.Reply message) old new link link_after
+Takes (piece.Over fault) old new link link_after = Came (step.Over fault) old new link link_after
+Takes piece.Ended old new link link_after = Carries [] [] true link link_after × (link_after.faults ≡ link.faults)
+Takes piece.Lost old new link link_after = Carries [] [] false link link_after × (link_after.faults ≡ next_count link.faults)

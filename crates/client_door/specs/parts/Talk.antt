@@ -117,9 +117,13 @@ pub record IsClean (feeder : Feeding) : Type 0 where
 abbrev pub with_read : ClientSide → SeatState → Option Recording → ClientSide
 with_read side seat recording = record side { seat = seat; recording = recording }
 
--- from whatever start it met these bytes before, it meets those after
-abbrev pub Reads : ClientSide → List ℕ → List ℕ → ClientSide → List ℕ → List ℕ → Type 0
-Reads old ahead waiting new rest after = (start : ClientSide) → Meets start old ahead waiting → Meets start new rest after
+-- From whatever start it met these bytes before, it meets those after; and the checks that were answered between were all read
+-- at this state.
+abbrev pub ReadsAt : DeskState → ClientSide → List ℕ → List ℕ → ClientSide → List ℕ → List ℕ → Type 0
+ReadsAt desk old ahead waiting new rest after = (start : ClientSide) → (met : Meets start old ahead waiting)
+    → (now : Meets start new rest after) × (more : List Answered)
+    × (now.sent ++ now.unsent ≡ (met.sent ++ met.unsent) ++ more)
+    × AllByRecursion (λ (one : Answered). one.desk ≡ desk) more
 
 -- from whatever start it met these bytes before, the talk has ended so
 abbrev pub EndsReading : ClientSide → List ℕ → List ℕ → ClientSide → Ended → Type 0

@@ -9,6 +9,8 @@ use Rattle.desk_state.specs.DeskState.{DeskState}
 use Rattle.desk_keeper.specs.declared.keeper.Keeper.{Keeper}
 use Rattle.admin_door.specs.Serving.{Exchange}
 use Rattle.admin_door.specs.Running.{RunsOver}
+use Rattle.admin_door.specs.Hanging.{AreHung}
+use Rattle.live_roll.specs.declared.events.Event.{Event}
 use Rattle.server_hall.specs.StopNews.{StopsTold}
 use Rattle.desk_server.specs.Visit.{Visit, IsFresh, InTurn, GivesBack, GoesOnTold, Works, door_faults_after}
 use Rattle.desk_server.specs.Administrators.{Office, office_of, VisitsOffice, EndsOffice}
@@ -37,32 +39,34 @@ module _ {D L : Type 0} (faults : D → ℕ) (state : D → Option DiskState) (m
     (left_since : D → ℕ → FileMap → Type 0)
     (traffic : L → Option Traffic) (marks : L → LinkMarks) (link_faults : L → ℕ) where
   -- Since the first keeper their worker has done so much, and goes on; and what a stop may leave in the folder is told
-  -- of the frames that came.
+  -- of the frames that came, and which disconnects stand in a front of the roll's log.
   abbrev pub HoldsOffice : Keeper D → Office → Option (List L) → ℕ → StopsTold → Keeper D → List DeskState
       → Option (List L) → ℕ
-      → StopsTold → Type 0
-  HoldsOffice first start given count told keeper published given_now count_now told_now = (frames : List Exchange)
+      → StopsTold → List Event → Type 0
+  HoldsOffice first start given count told keeper published given_now count_now told_now hangs = (frames : List Exchange)
       × SoFar (VisitsOffice traffic marks link_faults) (GoesOnTold told told_now) marks link_faults start
       (office_of faults keeper published frames)
       given given_now count count_now
-      × RunsOver state moment left_since first keeper frames
+      × RunsOver state moment left_since first keeper frames × AreHung hangs frames
 
   -- the same, and it has ended so
   abbrev pub EndsHolding : WorkerEnd → Keeper D → Office → Option (List L) → ℕ → StopsTold → Keeper D → List DeskState
-      → Option (List L) → ℕ → StopsTold → Type 0
-  EndsHolding end first start given count told keeper published given_now count_now told_now = (frames : List Exchange)
+      → Option (List L) → ℕ → StopsTold → List Event → Type 0
+  EndsHolding end first start given count told keeper published given_now count_now told_now hangs = (frames : List Exchange)
       × Works (VisitsOffice traffic marks link_faults) (EndsOffice told told_now) marks link_faults end start
       (office_of faults keeper published frames) given given_now count count_now
-      × RunsOver state moment left_since first keeper frames
+      × RunsOver state moment left_since first keeper frames × AreHung hangs frames
 
   -- from wherever it began, it goes on or has ended behind one more connection
   abbrev pub TurnsOffice : Result (Unit {0}) WorkerEnd → Keeper D → List DeskState → Option (List L) → ℕ → StopsTold
+      → List Event
       → Keeper D
-      → List DeskState → Option (List L) → ℕ → StopsTold → Type 0
-  TurnsOffice result keeper published given_old count_old told_old keeper_now published_now given_now count_now
-      told_now =
+      → List DeskState → Option (List L) → ℕ → StopsTold → List Event → Type 0
+  TurnsOffice result keeper published given_old count_old told_old hangs keeper_now published_now given_now count_now
+      told_now hangs_now =
       (first : Keeper D) (start : Office) (given : Option (List L)) (count : ℕ) (told : StopsTold)
-      → HoldsOffice first start given count told keeper published given_old count_old told_old
+      → HoldsOffice first start given count told keeper published given_old count_old told_old hangs
       → MatchResult result
-      (λ done. HoldsOffice first start given count told keeper_now published_now given_now count_now told_now)
-      (λ end. EndsHolding end first start given count told keeper_now published_now given_now count_now told_now)
+      (λ done. HoldsOffice first start given count told keeper_now published_now given_now count_now told_now hangs_now)
+      (λ end. EndsHolding end first start given count told keeper_now published_now given_now count_now told_now
+      hangs_now)

@@ -3,17 +3,18 @@ use denote.Ref.{MutBor}
 use denote.Param.Members.{Shared}
 use Rattle.std.specs.Prelude.{◌≡◌, ℕ, Bool, false, List, [], ◌∷◌, ◌++◌, map, replicate, Option, Some, None}
 use Rattle.std.specs.Fork.{ChangesEach}
+use mathlib.Core.List.{IsPrefix}
 use Rattle.desk_ports.specs.Faults.{next_count}
 use Rattle.link_ports.specs.Told.{IfTold}
 use Rattle.link_ports.specs.Traffic.{Traffic}
 use Rattle.link_ports.specs.LinkMarks.{LinkMarks}
 use Rattle.link_ports.specs.declared.door_kinds.DoorKind.{DoorKind}
 use Rattle.desk_state.specs.DeskState.{DeskState}
+use Rattle.live_roll.specs.declared.events.Event.{Event}
 use Rattle.live_desk.specs.History.{GoesOn}
 use Rattle.live_desk.specs.Seat.{SeatState}
 use Rattle.server_hall.specs.StopNews.{StopsTold, unasked}
-use Rattle.desk_server.specs.Visit.{Works, EndsWorking}
-use Rattle.desk_server.specs.Clients.{VisitsClients}
+use Rattle.desk_server.specs.Visit.{Visit, Works, EndsWorking}
 use Rattle.desk_server.specs.Agents.{VisitsAgents}
 use Rattle.desk_server.specs.declared.workers.WorkerEnd.{WorkerEnd}
 use Rattle.serve_runs.specs.Crew.{kind_for, is_lacking}
@@ -29,9 +30,14 @@ abbrev pub duty_at : {J X : Type 0} → Station J X → Option X
 duty_at (Clients seat duty) = Some duty
 duty_at Agents = None
 
-abbrev pub post_at : {J X : Type 0} → Station J X → Option SeatState
-post_at (Clients seat duty) = Some seat
-post_at Agents = None
+abbrev pub seat_at : {J X : Type 0} → Station J X → Option SeatState
+seat_at (Clients seat duty) = Some seat
+seat_at Agents = None
+
+-- what a worker there hands on, by what that is of a seat and of what is done beside
+abbrev pub post_at : {J X S : Type 0} → (SeatState → X → S) → Station J X → Option S
+post_at state (Clients seat duty) = Some (state seat duty)
+post_at state Agents = None
 
 -- a station for each seat, with the duty of the same place
 abbrev pub manned : {J X : Type 0} → List SeatState → List X → List (Station J X)
@@ -71,14 +77,14 @@ lacked None = false
 abbrev pub worker_lacked : {J E X : Type 0} → Worker J E X → Bool
 worker_lacked worker = lacked worker.end
 
--- what the seat has seen, where there is one, begins the states that were published
-abbrev pub HasSeenOf : List DeskState → Option SeatState → Type 0
-HasSeenOf published (Some seat) = GoesOn seat.seen published
-HasSeenOf published None = Unit {0}
+-- what the seat has seen, where there is one, begins the states that were published, and what it knows of the roll these events
+abbrev pub HasSeenOf : List DeskState → List Event → Option SeatState → Type 0
+HasSeenOf published events (Some seat) = GoesOn seat.seen published × IsPrefix seat.events events
+HasSeenOf published events None = Unit {0}
 
--- what the worker's seat has seen
-abbrev pub SawOnly : {J E X : Type 0} → List DeskState → Worker J E X → Type 0
-SawOnly published worker = HasSeenOf published (post_at worker.station)
+-- what the worker's seat has seen, and knows
+abbrev pub SawOnly : {J E X : Type 0} → List DeskState → List Event → Worker J E X → Type 0
+SawOnly published events worker = HasSeenOf published events (seat_at worker.station)
 
 -- A door whose `accept` has failed raises the count of its net when it is closed.
 abbrev pub CountsDoor : ℕ → ℕ → ℕ → Type 0
@@ -90,16 +96,15 @@ pub record StandsAt {L J E X : Type 0} (given_back : E → Option (List L)) (doo
   pub station_is : worker.station ≡ station
   pub fresh : door_faults worker.door ≡ 0
   pub unused : IfTold (given_back worker.door) (λ links. links ≡ [])
-  pub is_theirs : kind worker.door ≡ Some (kind_for (post_at station))
+  pub is_theirs : kind worker.door ≡ Some (kind_for (seat_at station))
 
-module _ {L J E X : Type 0} (traffic : L → Option Traffic) (marks : L → LinkMarks) (faults : L → ℕ)
-    (given_back : E → Option (List L)) (door_faults : E → ℕ) (goes : X → X → Type 0) where
-  -- what a worker did at its station and its door, and what has become of its duty
+module _ {S L J E X : Type 0} (state : SeatState → X → S) (visits : S → Visit L → S → Type 0)
+    (traffic : L → Option Traffic) (marks : L → LinkMarks) (faults : L → ℕ) (given_back : E → Option (List L)) (door_faults : E → ℕ) where
+  -- what a worker did at its station and its door
   abbrev pub WorksAt : WorkerEnd → Station J X → Station J X → E → E → StopsTold → StopsTold → Type 0
   WorksAt end (Clients seat duty) (Clients seat_now duty_now) door door_now told told_now =
-      Works (VisitsClients traffic marks faults) (EndsWorking told told_now) marks faults end seat seat_now
+      Works visits (EndsWorking told told_now) marks faults end (state seat duty) (state seat_now duty_now)
       (given_back door) (given_back door_now) (door_faults door) (door_faults door_now)
-      × goes duty duty_now
   WorksAt end Agents Agents door door_now told told_now =
       Works (VisitsAgents traffic marks faults) (EndsWorking told told_now) marks faults end tt tt
       (given_back door) (given_back door_now) (door_faults door) (door_faults door_now)

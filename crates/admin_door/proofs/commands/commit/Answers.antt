@@ -7,9 +7,9 @@ use Rattle.admin_door.proofs.commands.commit.Goals as goal
 
 pub returns-in-Ok-clause-committed : goal.returns-in-Ok-clause-committed
 returns-in-Ok-clause-committed g c =
-    let old = side_of g.D.Disk.faults c.args.keeper.now c.args.publisher.now (g.A.Hall.tally c.args.hall.now)
+    let old = side_of g.D.Disk.faults c.args.keeper.now (g.P.KeptPublisher.states c.args.publisher.now) (g.A.Hall.tally c.args.hall.now)
     (g.A.Hall.calls c.args.hall.now) in
-    let now = side_of g.D.Disk.faults c.commit_prepared.new.keeper c.commit_prepared.new.publisher
+    let now = side_of g.D.Disk.faults c.commit_prepared.new.keeper (g.P.KeptPublisher.states c.commit_prepared.new.publisher)
     (g.A.Hall.tally c.commit_prepared.new.hall) (g.A.Hall.calls c.commit_prepared.new.hall) in
     let command = c.args.command.now in
     let accepted = c.in-Ok.ensures.accepted in
@@ -22,7 +22,7 @@ returns-in-Ok-clause-committed g c =
 
 pub returns-in-Err-clause-committed : goal.returns-in-Err-clause-committed
 returns-in-Err-clause-committed g c =
-    let old = side_of g.D.Disk.faults c.args.keeper.now c.args.publisher.now (g.A.Hall.tally c.args.hall.now)
+    let old = side_of g.D.Disk.faults c.args.keeper.now (g.P.KeptPublisher.states c.args.publisher.now) (g.A.Hall.tally c.args.hall.now)
     (g.A.Hall.calls c.args.hall.now) in
     either-way c.tell_refusal.result _ _ _ _
     (λ replies told. commits-refused c.args.command.now old c.in-Err.refusal replies.items c.in-Err.ensures.refused told)

@@ -10,8 +10,8 @@ returns-in-Ok-show-clause-shown g c =
     let desk = c.args.prepared.desk in
     let tally = g.A.Hall.tally c.args.hall.now in
     let calls = g.A.Hall.calls c.args.hall.now in
-    let old = side_of g.D.Disk.faults c.args.keeper.now c.args.publisher.now tally calls in
-    let between = side_of g.D.Disk.faults c.commit.new.self c.prepare.new.self tally calls in
+    let old = side_of g.D.Disk.faults c.args.keeper.now (g.P.KeptPublisher.states c.args.publisher.now) tally calls in
+    let between = side_of g.D.Disk.faults c.commit.new.self (g.P.KeptPublisher.states c.prepare.new.self) tally calls in
     let kept : c.commit.new.self.desk ≡ desk = search rules in
     let keeps : between ≡ with_kept desk old =
     same-side between (with_kept desk old) kept c.in-Ok-commit.ensures.decided c.prepare.ensures.kept refl refl

@@ -6,14 +6,15 @@ use Rattle.admin_door.proofs.Adding.{settles-hung}
 use Rattle.admin_door.proofs.Answering.{either-way}
 use Rattle.admin_door.proofs.Stopping.{stands-behind}
 use Rattle.admin_door.proofs.Damage.{ok-way, commits-undamaged, unsettled-damaged}
+use Rattle.admin_door.proofs.Hanging.{hangs_then}
 use Rattle.admin_door.proofs.commands.obey.Goals as goal
 
 pub commit-requires-clause-hung : goal.commit-requires-clause-hung
 commit-requires-clause-hung g c =
-    let old = side_of g.D.Disk.faults c.args.keeper.now c.args.publisher.now (g.A.Hall.tally c.args.hall.now)
+    let old = side_of g.D.Disk.faults c.args.keeper.now (g.P.KeptPublisher.states c.args.publisher.now) (g.A.Hall.tally c.args.hall.now)
     (g.A.Hall.calls c.args.hall.now) in
     let between =
-    side_of g.D.Disk.faults c.settle.new.keeper c.settle.new.publisher (g.A.Hall.tally c.settle.new.hall)
+    side_of g.D.Disk.faults c.settle.new.keeper (g.P.KeptPublisher.states c.settle.new.publisher) (g.A.Hall.tally c.settle.new.hall)
     (g.A.Hall.calls c.settle.new.hall) in
     subst (λ shown. IsHungFor shown between.published between.tally) (sym c.commit-shown.ensures.commit)
     (settles-hung (g.D.Disk.state (disk_of c.args.keeper.now)) old between c.in-Ok.ensures.settled)
@@ -21,7 +22,7 @@ commit-requires-clause-hung g c =
 pub returns-in-Ok-clause-obeyed : goal.returns-in-Ok-clause-obeyed
 returns-in-Ok-clause-obeyed g c =
     let between =
-    side_of g.D.Disk.faults c.settle.new.keeper c.settle.new.publisher (g.A.Hall.tally c.settle.new.hall)
+    side_of g.D.Disk.faults c.settle.new.keeper (g.P.KeptPublisher.states c.settle.new.publisher) (g.A.Hall.tally c.settle.new.hall)
     (g.A.Hall.calls c.settle.new.hall) in
     let settles = c.in-Ok.ensures.settled in
     either-way c.commit.result _ _ _ _ (λ replies commits. inl (between, settles, commits))
@@ -51,10 +52,10 @@ returns-in-Err-clause-kept g c before told known decided = (c.settle.ensures.kep
 
 pub returns-in-Ok-clause-damaged : goal.returns-in-Ok-clause-damaged
 returns-in-Ok-clause-damaged g c =
-    let now = side_of g.D.Disk.faults c.commit.new.keeper c.commit.new.publisher (g.A.Hall.tally c.commit.new.hall)
+    let now = side_of g.D.Disk.faults c.commit.new.keeper (g.P.KeptPublisher.states c.commit.new.publisher) (g.A.Hall.tally c.commit.new.hall)
     (g.A.Hall.calls c.commit.new.hall) in
     let between =
-    side_of g.D.Disk.faults c.settle.new.keeper c.settle.new.publisher (g.A.Hall.tally c.settle.new.hall)
+    side_of g.D.Disk.faults c.settle.new.keeper (g.P.KeptPublisher.states c.settle.new.publisher) (g.A.Hall.tally c.settle.new.hall)
     (g.A.Hall.calls c.settle.new.hall) in
     ok-way c.commit.result _ _ _
     (λ replies commits before told. commits-undamaged c.args.keeper.now.desk (g.D.Disk.state (disk_of c.commit.new.keeper))
@@ -66,3 +67,8 @@ returns-in-Err-clause-damaged g c =
     ok-way c.tell_unsettled.result _ _ _
     (λ replies told before state. unsettled-damaged c.args.keeper.now.desk (g.D.Disk.state (disk_of c.settle.new.keeper)) c.in-Err.reason
     replies.items told (c.in-Err.ensures.damaged before state)) c.tell_unsettled.ensures
+
+pub returns-in-Ok-clause-hangs : goal.returns-in-Ok-clause-hangs
+returns-in-Ok-clause-hangs g c =
+    hangs_then (g.P.KeptPublisher.states c.args.publisher.now) (g.P.KeptPublisher.states c.settle.new.publisher) (g.P.KeptPublisher.states c.commit.new.publisher) c.args.hangs.now c.settle.new.hangs
+    c.commit.new.hangs c.settle.ensures.hangs c.commit.ensures.hangs

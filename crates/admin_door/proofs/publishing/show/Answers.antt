@@ -4,6 +4,7 @@ use Rattle.live_desk.specs.History.{last_commit}
 use Rattle.server_hall.specs.Tally.{after_hang}
 use Rattle.admin_door.specs.Side.{side_of, with_shown}
 use Rattle.admin_door.proofs.Showing.{last-behind, same-side, hung-last}
+use Rattle.admin_door.proofs.Hanging.{hangs_last, hangs_same}
 use Rattle.admin_door.proofs.publishing.show.Goals as goal
 
 pub returns-in-Ok-clause-shown : goal.returns-in-Ok-clause-shown
@@ -30,3 +31,11 @@ returns-in-Ok-clause-behind g c =
     let published : c.publish.new.self ≡ c.args.publisher.now ++ desk ∷ [] = search rules in
     let even = ap (λ (list : List DeskState). last_commit 0 list) published ∙ last-behind 0 c.args.publisher.now desk in
     omega (arith, even)
+
+-- a disconnect up to the last commit stands in the front
+pub returns-in-Ok-clause-hangs : goal.returns-in-Ok-clause-hangs
+returns-in-Ok-clause-hangs g c =
+    hangs_last c.args.publisher.now c.publish.new.self c.args.hangs.now c.hang.new.hangs c.hang.ensures.begins c.hang.ensures.up_to
+
+pub returns-in-Err-clause-hangs : goal.returns-in-Err-clause-hangs
+returns-in-Err-clause-hangs g c = hangs_same c.args.publisher.now c.publish.new.self c.args.hangs.now c.in-Err.ensures.kept

@@ -9,15 +9,16 @@ use Rattle.admin_door.proofs.settling.publish_kept.Goals as goal
 pub show-requires-clause-newer : goal.show-requires-clause-newer
 show-requires-clause-newer g c =
     let kept = c.commit-2.ensures.commit ∙ ap (λ (desk : DeskState). desk.commit) c.desk.ensures in
-    grind (arith, c.if-commit.false, c.commit.ensures.commit, kept, nat_tests)
+    let still = ap (λ (published : List DeskState). last_commit 0 published) c.prepare.ensures.kept in
+    grind (arith, c.if-commit.false, c.commit.ensures.commit, kept, still, nat_tests)
 
 pub returns-in-Ok-show-clause-shown : goal.returns-in-Ok-show-clause-shown
 returns-in-Ok-show-clause-shown g c =
     let desk = c.args.keeper.now.desk in
-    let old = side_of g.D.Disk.faults c.args.keeper.now c.args.publisher.now (g.A.Hall.tally c.args.hall.now)
+    let old = side_of g.D.Disk.faults c.args.keeper.now (g.P.KeptPublisher.states c.args.publisher.now) (g.A.Hall.tally c.args.hall.now)
     (g.A.Hall.calls c.args.hall.now) in
     let kept = c.commit-2.ensures.commit ∙ ap (λ (desk : DeskState). desk.commit) c.desk.ensures in
-    let newer : last_commit 0 c.args.publisher.now < desk.commit =
+    let newer : last_commit 0 (g.P.KeptPublisher.states c.args.publisher.now) < desk.commit =
     grind (arith, c.if-commit.false, c.commit.ensures.commit, kept, nat_tests) in
     c.in-Ok-show.ensures.shown
     ∙ (ap (λ (published : List DeskState). with_shown desk

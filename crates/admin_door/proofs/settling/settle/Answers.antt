@@ -10,17 +10,17 @@ returns-in-Ok-clause-settled g c =
     let told = g.D.Disk.state (disk_of c.args.keeper.now) in
     let tally = g.A.Hall.tally c.args.hall.now in
     let calls = g.A.Hall.calls c.args.hall.now in
-    let old = side_of g.D.Disk.faults c.args.keeper.now c.args.publisher.now tally calls in
-    let found = side_of g.D.Disk.faults c.remount.new.keeper c.args.publisher.now tally calls in
-    let now = side_of g.D.Disk.faults c.remount.new.keeper c.publish_kept-in-Ok.new.publisher
+    let old = side_of g.D.Disk.faults c.args.keeper.now (g.P.KeptPublisher.states c.args.publisher.now) tally calls in
+    let found = side_of g.D.Disk.faults c.remount.new.keeper (g.P.KeptPublisher.states c.args.publisher.now) tally calls in
+    let now = side_of g.D.Disk.faults c.remount.new.keeper (g.P.KeptPublisher.states c.publish_kept-in-Ok.new.publisher)
     (g.A.Hall.tally c.publish_kept-in-Ok.new.hall) (g.A.Hall.calls c.publish_kept-in-Ok.new.hall) in
-    let is_found = c.in-Ok.ensures.remounted c.args.publisher.now tally calls in
+    let is_found = c.in-Ok.ensures.remounted (g.P.KeptPublisher.states c.args.publisher.now) tally calls in
     either-way c.publish_kept-in-Ok.result _ _ _ _ (λ done shown. settles-shown told old found now is_found shown)
     (λ reason is. unsettles-unshown told old found now reason is_found is) c.publish_kept-in-Ok.ensures.shown
 
 pub returns-in-Err-clause-settled : goal.returns-in-Err-clause-settled
 returns-in-Err-clause-settled g c =
-    c.in-Err.ensures.remounted c.args.publisher.now (g.A.Hall.tally c.args.hall.now) (g.A.Hall.calls c.args.hall.now)
+    c.in-Err.ensures.remounted (g.P.KeptPublisher.states c.args.publisher.now) (g.A.Hall.tally c.args.hall.now) (g.A.Hall.calls c.args.hall.now)
 
 pub returns-then-is_decided-clause-stops : goal.returns-then-is_decided-clause-stops
 returns-then-is_decided-clause-stops g c before told =

@@ -8,10 +8,10 @@ pub returns-in-Err : goal.returns-in-Err
 returns-in-Err g c start s =
     let sent = c.in-Err.ensures.sent in
     ends_unregistered c.args.registered start
-    (agent_side (g.A.Hall.tally c.args.hall.now) (g.A.Hall.calls c.args.hall.now) (g.L.Link.traffic c.args.link.now)
+    (agent_side (g.A.AgentHall.tally c.args.hall.now) (g.A.AgentHall.calls c.args.hall.now) (g.L.Link.traffic c.args.link.now)
     (g.L.Link.marks c.args.link.now)
     (g.L.Link.faults c.args.link.now))
-    (agent_side (g.A.Hall.tally c.args.hall.now) (g.A.Hall.calls c.args.hall.now) (g.L.Link.traffic c.send.new.link)
+    (agent_side (g.A.AgentHall.tally c.args.hall.now) (g.A.AgentHall.calls c.args.hall.now) (g.L.Link.traffic c.send.new.link)
     (g.L.Link.marks c.send.new.link)
     (g.L.Link.faults c.send.new.link))
     c.args.feeder.now c.in-Err.ended sent.0 c.requires.side sent.1 refl refl (ap (λ (marks : LinkMarks). marks.ends) c.send.ensures.marks) s
@@ -27,9 +27,9 @@ loop-init g c =
           (
             c.requires.sound,
             λ start s. begins c.args.registered start
-                (agent_side (g.A.Hall.tally c.args.hall.now) (g.A.Hall.calls c.args.hall.now) (g.L.Link.traffic c.args.link.now)
+                (agent_side (g.A.AgentHall.tally c.args.hall.now) (g.A.AgentHall.calls c.args.hall.now) (g.L.Link.traffic c.args.link.now)
                 (g.L.Link.marks c.args.link.now) (g.L.Link.faults c.args.link.now))
-                (agent_side (g.A.Hall.tally c.args.hall.now) (g.A.Hall.calls c.args.hall.now) (g.L.Link.traffic c.send.new.link)
+                (agent_side (g.A.AgentHall.tally c.args.hall.now) (g.A.AgentHall.calls c.args.hall.now) (g.L.Link.traffic c.send.new.link)
                 (g.L.Link.marks c.send.new.link) (g.L.Link.faults c.send.new.link))
                 c.args.feeder.now sent.0 refl refl sent.1 (ap (λ (marks : LinkMarks). marks.ends) c.send.ensures.marks) s,
           ),

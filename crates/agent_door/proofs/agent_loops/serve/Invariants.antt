@@ -13,8 +13,8 @@ invariant-loop g l =
     × ((l.feeder.heard ≡ AtAgent)
     × (IsSound l.feeder
     × ((start : AgentSide) → HasJoined l.fn.registered start
-    (agent_side (g.A.Hall.tally l.fn.hall) (g.A.Hall.calls l.fn.hall) (g.L.Link.traffic l.fn.link) (g.L.Link.marks l.fn.link)
+    (agent_side (g.A.AgentHall.tally l.fn.hall) (g.A.AgentHall.calls l.fn.hall) (g.L.Link.traffic l.fn.link) (g.L.Link.marks l.fn.link)
     (g.L.Link.faults l.fn.link))
     l.fn.feeder → Stands l.fn.registered start
-    (agent_side (g.A.Hall.tally l.hall) (g.A.Hall.calls l.hall) (g.L.Link.traffic l.link) (g.L.Link.marks l.link) (g.L.Link.faults l.link))
+    (agent_side (g.A.AgentHall.tally l.hall) (g.A.AgentHall.calls l.hall) (g.L.Link.traffic l.link) (g.L.Link.marks l.link) (g.L.Link.faults l.link))
     l.feeder None))))

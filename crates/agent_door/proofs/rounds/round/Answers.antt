@@ -15,9 +15,9 @@ returns-in-Err-Stopped-clause-round g c start s =
     let why : NextRefusal = c.in-Err-Stopped.field-0 in
     let least = faults_after_refusal why (g.L.Link.faults c.args.link.now) (g.L.Link.faults c.next.new.link) c.in-Err-Stopped.ensures.faults in
     ends_for_next c.args.registration start
-    (agent_side (g.A.Hall.tally c.args.hall.now) (g.A.Hall.calls c.args.hall.now) (g.L.Link.traffic c.args.link.now)
+    (agent_side (g.A.AgentHall.tally c.args.hall.now) (g.A.AgentHall.calls c.args.hall.now) (g.L.Link.traffic c.args.link.now)
     (g.L.Link.marks c.args.link.now) (g.L.Link.faults c.args.link.now))
-    (agent_side (g.A.Hall.tally c.next.new.self) (g.A.Hall.calls c.next.new.self) (g.L.Link.traffic c.next.new.link)
+    (agent_side (g.A.AgentHall.tally c.next.new.self) (g.A.AgentHall.calls c.next.new.self) (g.L.Link.traffic c.next.new.link)
     (g.L.Link.marks c.next.new.link) (g.L.Link.faults c.next.new.link))
     c.args.feeder.now Stopped why c.requires.side
     (λ bytes heeded begun. (refl, ap (refused_next c.args.registration.kind) c.in-Err-Stopped.field-0-is, begun))
@@ -30,9 +30,9 @@ returns-in-Err-Left-clause-round g c start s =
     let why : NextRefusal = c.in-Err-Left.field-0 in
     let least = faults_after_refusal why (g.L.Link.faults c.args.link.now) (g.L.Link.faults c.next.new.link) c.in-Err-Left.ensures.faults in
     ends_for_next c.args.registration start
-    (agent_side (g.A.Hall.tally c.args.hall.now) (g.A.Hall.calls c.args.hall.now) (g.L.Link.traffic c.args.link.now)
+    (agent_side (g.A.AgentHall.tally c.args.hall.now) (g.A.AgentHall.calls c.args.hall.now) (g.L.Link.traffic c.args.link.now)
     (g.L.Link.marks c.args.link.now) (g.L.Link.faults c.args.link.now))
-    (agent_side (g.A.Hall.tally c.next.new.self) (g.A.Hall.calls c.next.new.self) (g.L.Link.traffic c.next.new.link)
+    (agent_side (g.A.AgentHall.tally c.next.new.self) (g.A.AgentHall.calls c.next.new.self) (g.L.Link.traffic c.next.new.link)
     (g.L.Link.marks c.next.new.link) (g.L.Link.faults c.next.new.link))
     c.args.feeder.now Closed why c.requires.side
     (λ bytes heeded begun. Closes.has_left refl (ap (refused_next c.args.registration.kind) c.in-Err-Left.field-0-is) begun
@@ -47,9 +47,9 @@ returns-in-Err-Memory-clause-round g c start s =
     let why : NextRefusal = c.in-Err-Memory.field-0 in
     let least = faults_after_refusal why (g.L.Link.faults c.args.link.now) (g.L.Link.faults c.next.new.link) c.in-Err-Memory.ensures.faults in
     ends_for_next c.args.registration start
-    (agent_side (g.A.Hall.tally c.args.hall.now) (g.A.Hall.calls c.args.hall.now) (g.L.Link.traffic c.args.link.now)
+    (agent_side (g.A.AgentHall.tally c.args.hall.now) (g.A.AgentHall.calls c.args.hall.now) (g.L.Link.traffic c.args.link.now)
     (g.L.Link.marks c.args.link.now) (g.L.Link.faults c.args.link.now))
-    (agent_side (g.A.Hall.tally c.next.new.self) (g.A.Hall.calls c.next.new.self) (g.L.Link.traffic c.next.new.link)
+    (agent_side (g.A.AgentHall.tally c.next.new.self) (g.A.AgentHall.calls c.next.new.self) (g.L.Link.traffic c.next.new.link)
     (g.L.Link.marks c.next.new.link) (g.L.Link.faults c.next.new.link))
     c.args.feeder.now Memory why c.requires.side
     (λ bytes heeded begun. (inr (refl, c.in-Err-Memory.field-0, refl), begun))
@@ -63,9 +63,9 @@ returns-in-Err-clause-round g c start s =
     let sent = c.in-Err.ensures.sent in
     let still = c.in-Ok.ensures.faults in
     ends_unasked c.args.registration start
-    (agent_side (g.A.Hall.tally c.args.hall.now) (g.A.Hall.calls c.args.hall.now) (g.L.Link.traffic c.args.link.now)
+    (agent_side (g.A.AgentHall.tally c.args.hall.now) (g.A.AgentHall.calls c.args.hall.now) (g.L.Link.traffic c.args.link.now)
     (g.L.Link.marks c.args.link.now) (g.L.Link.faults c.args.link.now))
-    (agent_side (g.A.Hall.tally c.next.new.self) (g.A.Hall.calls c.next.new.self) (g.L.Link.traffic c.send_question.new.link)
+    (agent_side (g.A.AgentHall.tally c.next.new.self) (g.A.AgentHall.calls c.next.new.self) (g.L.Link.traffic c.send_question.new.link)
     (g.L.Link.marks c.send_question.new.link) (g.L.Link.faults c.send_question.new.link))
     c.args.feeder.now c.in-Err.ended c.in-Ok.asked (g.L.Link.faults c.next.new.link) c.requires.side (omega (arith, still)) sent.0
     c.in-Ok.ensures.tally c.in-Ok.ensures.calls
@@ -80,9 +80,9 @@ returns-in-Ok-take_turns-clause-round g c start s =
     let same = sent.1 in
     c.in-Ok-take_turns.ensures.closed c.in-Ok.asked refl start
     (asks_next c.args.registration start
-    (agent_side (g.A.Hall.tally c.args.hall.now) (g.A.Hall.calls c.args.hall.now) (g.L.Link.traffic c.args.link.now)
+    (agent_side (g.A.AgentHall.tally c.args.hall.now) (g.A.AgentHall.calls c.args.hall.now) (g.L.Link.traffic c.args.link.now)
     (g.L.Link.marks c.args.link.now) (g.L.Link.faults c.args.link.now))
-    (agent_side (g.A.Hall.tally c.next.new.self) (g.A.Hall.calls c.next.new.self) (g.L.Link.traffic c.send_question.new.link)
+    (agent_side (g.A.AgentHall.tally c.next.new.self) (g.A.AgentHall.calls c.next.new.self) (g.L.Link.traffic c.send_question.new.link)
     (g.L.Link.marks c.send_question.new.link) (g.L.Link.faults c.send_question.new.link))
     c.args.feeder.now c.in-Ok.asked
     (sent_behind (g.L.Link.traffic c.args.link.now) (g.L.Link.traffic c.next.new.link) (g.L.Link.traffic c.send_question.new.link)
@@ -97,9 +97,9 @@ returns-in-Err-take_turns-clause-round g c start s =
     let same = sent.1 in
     c.in-Err-take_turns.ensures.closed c.in-Ok.asked refl start
     (asks_next c.args.registration start
-    (agent_side (g.A.Hall.tally c.args.hall.now) (g.A.Hall.calls c.args.hall.now) (g.L.Link.traffic c.args.link.now)
+    (agent_side (g.A.AgentHall.tally c.args.hall.now) (g.A.AgentHall.calls c.args.hall.now) (g.L.Link.traffic c.args.link.now)
     (g.L.Link.marks c.args.link.now) (g.L.Link.faults c.args.link.now))
-    (agent_side (g.A.Hall.tally c.next.new.self) (g.A.Hall.calls c.next.new.self) (g.L.Link.traffic c.send_question.new.link)
+    (agent_side (g.A.AgentHall.tally c.next.new.self) (g.A.AgentHall.calls c.next.new.self) (g.L.Link.traffic c.send_question.new.link)
     (g.L.Link.marks c.send_question.new.link) (g.L.Link.faults c.send_question.new.link))
     c.args.feeder.now c.in-Ok.asked
     (sent_behind (g.L.Link.traffic c.args.link.now) (g.L.Link.traffic c.next.new.link) (g.L.Link.traffic c.send_question.new.link)

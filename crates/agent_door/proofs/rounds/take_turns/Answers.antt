@@ -10,7 +10,7 @@ returns-in-Err-clause-closed g c asked same start s =
 
 pub returns-clause-closed : goal.returns-clause-closed
 returns-clause-closed g c asked same start s =
-    let last = agent_side (g.A.Hall.tally c.loop-turn.hall) (g.A.Hall.calls c.loop-turn.hall) (g.L.Link.traffic c.loop-turn.link)
+    let last = agent_side (g.A.AgentHall.tally c.loop-turn.hall) (g.A.AgentHall.calls c.loop-turn.hall) (g.L.Link.traffic c.loop-turn.link)
     (g.L.Link.marks c.loop-turn.link) (g.L.Link.faults c.loop-turn.link) in
     let through : c.loop-turn.turn ≡ 600 = search rules in
     ends_late c.args.registration last c.loop-turn.feeder asked c.loop-turn.invariant.0 start

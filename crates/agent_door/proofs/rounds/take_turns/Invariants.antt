@@ -12,8 +12,8 @@ invariant-loop-turn g l =
     (l.feeder.heard ≡ AtAgent)
     × (IsSound l.feeder
     × ((asked : Asked) → asked.number ≡ l.fn.number → Goes l.fn.registration
-    (agent_side (g.A.Hall.tally l.fn.hall) (g.A.Hall.calls l.fn.hall) (g.L.Link.traffic l.fn.link) (g.L.Link.marks l.fn.link)
+    (agent_side (g.A.AgentHall.tally l.fn.hall) (g.A.AgentHall.calls l.fn.hall) (g.L.Link.traffic l.fn.link) (g.L.Link.marks l.fn.link)
     (g.L.Link.faults l.fn.link))
     l.fn.feeder (Some (waiting_since asked 0))
-    (agent_side (g.A.Hall.tally l.hall) (g.A.Hall.calls l.hall) (g.L.Link.traffic l.link) (g.L.Link.marks l.link) (g.L.Link.faults l.link))
+    (agent_side (g.A.AgentHall.tally l.hall) (g.A.AgentHall.calls l.hall) (g.L.Link.traffic l.link) (g.L.Link.marks l.link) (g.L.Link.faults l.link))
     l.feeder (Some (waiting_since asked l.turn))))

@@ -1,18 +1,24 @@
-use Rattle.std.proofs.Common.{rules, ◌≡◌, ◌<◌, ℕ, List, length, take, false, ◌∙◌, arith}
-use Rattle.agent_runs.specs.LinkSeen.{link_seen}
-use Rattle.agent_runs.proofs.Carrying.{carries-received, marks-some}
-use Rattle.agent_runs.proofs.Receiving.{came}
+use Rattle.std.proofs.Common.{rules, length, take}
+use Rattle.agent_runs.proofs.Making.{came, only_these}
 use Rattle.agent_runs.proofs.hearing.take_piece.Goals as goal
 
-pub returns-in-Ok : goal.returns-in-Ok
-returns-in-Ok g c =
-    let bytes : List ℕ = take c.in-Ok.count c.receive.new.into in
-    let some : 0 < c.in-Ok.count = search rules in
-    let long : length bytes ≡ c.in-Ok.count = search rules in
-    came c.hear_piece.result c.args.feeder.now c.hear_piece.new.feeder
-    (link_seen g.L.Link c.args.link.now)
-    (link_seen g.L.Link c.receive.new.self)
-    bytes (omega (arith, some, long)) c.hear_piece.ensures
-    (carries-received bytes false _ _ c.in-Ok.ensures.received
-    (c.in-Ok.ensures.marks ∙ marks-some c.in-Ok.count (length c.args.room.now) _ some))
-    c.in-Ok.ensures.count
+pub returns-in-Wait : goal.returns-in-Wait
+returns-in-Wait g c =
+    came (take c.in-Ok.count c.receive.new.into) c.in-Ok.count (length c.args.room.now) (search rules) (search rules)
+    c.in-Ok.ensures.within c.requires.wanted c.in-Wait.ensures c.in-Ok.ensures.received c.in-Ok.ensures.marks c.in-Ok.ensures.count
+
+pub returns-in-Reply : goal.returns-in-Reply
+returns-in-Reply g c =
+    came (take c.in-Ok.count c.receive.new.into) c.in-Ok.count (length c.args.room.now) (search rules) (search rules)
+    c.in-Ok.ensures.within c.requires.wanted c.in-Reply.ensures c.in-Ok.ensures.received c.in-Ok.ensures.marks c.in-Ok.ensures.count
+
+pub returns-in-Over : goal.returns-in-Over
+returns-in-Over g c =
+    came (take c.in-Ok.count c.receive.new.into) c.in-Ok.count (length c.args.room.now) (search rules) (search rules)
+    c.in-Ok.ensures.within c.requires.wanted c.in-Over.ensures c.in-Ok.ensures.received c.in-Ok.ensures.marks c.in-Ok.ensures.count
+
+pub unreachable-requires : goal.unreachable-requires
+unreachable-requires g c =
+    only_these c.came.result c.args.machine.now c.came.new.self (take c.in-Ok.count c.receive.new.into) c.in-Ok.count
+    (length c.args.room.now) c.requires.ready (search rules) (search rules) c.in-Ok.ensures.within c.requires.wanted c.came.ensures
+    c.in_default.not-Wait c.in_default.not-Reply c.in_default.not-Over

@@ -20,6 +20,7 @@ loop-init g c = (
             (g.E.Door.given_back c.args.door.now) (g.E.Door.faults c.args.door.now) (tt, refl),
         runs-none g.D.Disk.state g.D.Disk.moment g.D.Disk.left_since c.args.keeper.now
             (g.met.D.Disk.only_now (disk_of c.args.keeper.now)),
+        tt,
       ),
       (c.requires.behind, (refl, refl)),
     ),

@@ -13,7 +13,7 @@ invariant-loop g l =
     g.L.Link.traffic g.L.Link.marks g.L.Link.faults l.fn.keeper
     (office_of g.D.Disk.faults l.fn.keeper l.fn.publisher [])
     (g.E.Door.given_back l.fn.door) (g.E.Door.faults l.fn.door)
-    l.fn.news l.keeper l.publisher (g.E.Door.given_back l.door) (g.E.Door.faults l.door) l.news
+    l.fn.news l.keeper l.publisher (g.E.Door.given_back l.door) (g.E.Door.faults l.door) l.news l.hangs
     × ((last_commit 0 l.publisher ≤ l.keeper.desk.commit)
     × (IsSameDisk l.fn.keeper l.keeper
     × (g.E.Door.kind l.door ≡ g.E.Door.kind l.fn.door)))))

@@ -34,7 +34,7 @@ pub returns-in-Ok-Serve-clause-source_count : goal.returns-in-Ok-Serve-clause-so
 returns-in-Ok-Serve-clause-source_count g c =
     reads-nothing g.N.Dial g.N.Link.Link g.N.Net.closed g.N.Door.Door g.N.Door.Link.Link c.args.words.now
     (seen_of g.S.Source g.K.Sink g.D.Disk g.N.Dial c.args.source.now c.args.sink.now c.args.disk.now c.args.net.now) c.args.net.now
-    _ (disk_seen g.D.Disk.state g.D.Disk.moment g.D.Disk.left_since g.D.Disk.faults c.run_serve.new.disk) c.run_serve.new.net
+    c.in-Ok-Serve.workers (disk_seen g.D.Disk.state g.D.Disk.moment g.D.Disk.left_since g.D.Disk.faults c.run_serve.new.disk) c.run_serve.new.net
     c.run_serve.result c.run_serve.ensures
 
 pub returns-in-Ok-Check-clause-source_count : goal.returns-in-Ok-Check-clause-source_count

@@ -19,6 +19,7 @@ returns-then-not-decide g c =
       };
       runs = runs-none g.D.Disk.state g.D.Disk.moment g.D.Disk.left_since c.args.keeper.now
           (g.met.D.Disk.only_now (disk_of c.args.keeper.now));
+      hung = tt;
       same_disk = refl;
       same_kind = refl;
     }

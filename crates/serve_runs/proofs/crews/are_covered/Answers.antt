@@ -9,15 +9,15 @@ use Rattle.serve_runs.proofs.crews.are_covered.Goals as goal
 pub loop-worker-preserved : goal.loop-worker-preserved
 loop-worker-preserved g c =
     let W = Worker g.row.J.Denot g.row.D.Denot g.row.X.Denot in
-    let saw : SawOnly c.args.publisher.now c.worker-item.result = c.if-not-is_covered.ensures in
+    let saw : SawOnly c.args.publisher.now c.args.events.now c.worker-item.result = c.if-not-is_covered.ensures in
     let before : List W = take c.loop-worker.worker-index c.args.crew.now in
-    subst (λ (list : List W). AllByRecursion (SawOnly c.args.publisher.now) list)
+    subst (λ (list : List W). AllByRecursion (SawOnly c.args.publisher.now c.args.events.now) list)
     (sym (take_more c.args.crew.now c.loop-worker.worker-index c.worker-item.result c.loop-worker-test.true
     ∙ ap (λ (one : W). before ++ one ∷ []) (sym c.worker-item.is)))
-    (all_push (SawOnly c.args.publisher.now) before c.worker-item.result c.loop-worker.invariant saw)
+    (all_push (SawOnly c.args.publisher.now c.args.events.now) before c.worker-item.result c.loop-worker.invariant saw)
 
 pub returns : goal.returns
 returns g c =
     let W = Worker g.row.J.Denot g.row.D.Denot g.row.X.Denot in
-    subst (λ (list : List W). AllByRecursion (SawOnly c.args.publisher.now) list)
+    subst (λ (list : List W). AllByRecursion (SawOnly c.args.publisher.now c.args.events.now) list)
     (take_all c.loop-worker.worker-index c.args.crew.now (omega arith)) c.loop-worker.invariant

@@ -5,4 +5,4 @@ use Rattle.serve_runs.proofs.crews.are_covered.Given as goal
 
 -- none of those so far
 abbrev pub invariant-loop-worker : goal.invariant-loop-worker
-invariant-loop-worker g l = AllByRecursion (SawOnly l.fn.publisher) (take l.worker-index l.crew)
+invariant-loop-worker g l = AllByRecursion (SawOnly l.fn.publisher l.fn.events) (take l.worker-index l.crew)

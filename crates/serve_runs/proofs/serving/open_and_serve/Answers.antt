@@ -6,9 +6,11 @@ use Rattle.desk_state.specs.DeskState.{DeskState}
 use Rattle.server_hall.specs.StopNews.{unasked}
 use Rattle.desk_server.specs.Visit.{Works}
 use Rattle.desk_server.specs.Administrators.{VisitsOffice, EndsOffice, office_of}
-use Rattle.serve_runs.specs.Crew.{doors_of, ends_of, is_lacking, is_alone, is_deserted}
+use Rattle.serve_runs.specs.Crew.{doors_of, ends_of, left_by, is_lacking, is_alone, is_deserted}
+use Rattle.serve_runs.specs.Duties.{AreStatesOf}
 use Rattle.serve_runs.specs.Serving.{ClosesDoors}
-use Rattle.serve_runs.specs.parts.Crews.{duty_at, post_at, duties_in, duties_of, door_of, worker_lacked, CountsDoor, SawOnly}
+use Rattle.serve_runs.specs.parts.Crews.{post_at, duties_of, door_of, worker_lacked, CountsDoor, SawOnly}
+use Rattle.admin_door.proofs.Hanging.{hung-on}
 use Rattle.serve_runs.proofs.Closing.{closes_then, closes_again, door_failed, counts_within}
 use Rattle.serve_runs.proofs.Crewing.{all_ended, failed_all, none_alone, alone_first}
 use Rattle.serve_runs.proofs.serving.open_and_serve.Goals as goal
@@ -25,7 +27,7 @@ returns-clause-served g c =
     c.serve-end.ensures.knocks.closed ∙ (c.open_doors.ensures.closed ∙ c.open.ensures.closed) in
     let works_so = subst (λ (published : List DeskState). Works
     (VisitsOffice g.N.Door.Link.Link.traffic g.N.Door.Link.Link.marks g.N.Door.Link.Link.faults) (EndsOffice unasked c.serve-end.ensures.officiates.told)
-    g.N.Door.Link.Link.marks g.N.Door.Link.Link.faults c.serve-end.result
+    g.N.Door.Link.Link.marks g.N.Door.Link.Link.faults c.serve-end.result.0
     (office_of g.D.Disk.faults c.args.keeper.now published [])
     (office_of g.D.Disk.faults c.serve-end.new.keeper c.serve-end.new.publisher c.serve-end.ensures.officiates.frames)
     (g.N.Door.Door.given_back c.in-Ok.door) (g.N.Door.Door.given_back c.serve-end.new.door)
@@ -33,7 +35,7 @@ returns-clause-served g c =
     c.requires.published c.serve-end.ensures.officiates.works in
     let works = subst (λ (count : ℕ). Works
     (VisitsOffice g.N.Door.Link.Link.traffic g.N.Door.Link.Link.marks g.N.Door.Link.Link.faults) (EndsOffice unasked c.serve-end.ensures.officiates.told)
-    g.N.Door.Link.Link.marks g.N.Door.Link.Link.faults c.serve-end.result
+    g.N.Door.Link.Link.marks g.N.Door.Link.Link.faults c.serve-end.result.0
     (office_of g.D.Disk.faults c.args.keeper.now (c.args.keeper.now.desk ∷ []) [])
     (office_of g.D.Disk.faults c.serve-end.new.keeper c.serve-end.new.publisher c.serve-end.ensures.officiates.frames)
     (g.N.Door.Door.given_back c.in-Ok.door) (g.N.Door.Door.given_back c.serve-end.new.door)
@@ -43,14 +45,18 @@ returns-clause-served g c =
     omega (arith, c.open.ensures.no_less, c.open_doors.ensures.no_less, c.serve-end.ensures.knocks.no_less) in
     let now = c.serve-end.new.crew in
     let written = with_items_is c.open_doors.new.crew now (search (rules, places)) in
-    let saw : AllByRecursion (SawOnly c.serve-end.new.publisher) now =
-    subst (λ list. AllByRecursion (SawOnly c.serve-end.new.publisher) list) (c.deref.ensures.value ∙ written) c.compare.ensures in
-    let ended = all_ended g.N.Door.Link.Link.traffic g.N.Door.Link.Link.marks g.N.Door.Link.Link.faults g.N.Door.Door.given_back
-    g.N.Door.Door.faults g.N.Door.Door.kind g.X.ClientDuty.goes c.serve-end.new.publisher c.args.stations.items c.deref_mut.result.now now
+    let saw : AllByRecursion (SawOnly c.serve-end.new.publisher c.serve-end.result.1) now =
+    subst (λ list. AllByRecursion (SawOnly c.serve-end.new.publisher c.serve-end.result.1) list) (c.deref.ensures.value ∙ written) c.compare.ensures.crew in
+    let state = g.X.ClientDuty.state in
+    let visits = g.X.ClientDuty.visits g.N.Door.Link.Link.traffic g.N.Door.Link.Link.marks g.N.Door.Link.Link.faults in
+    let ended = all_ended state g.X.ClientDuty.seat_of
+    (g.met.X.ClientDuty g.world.𝓛 g.world.𝓜 g.world.𝓡 ((λ s x. x), (λ x. x), (λ x. x), λ x. x)).seat_is visits
+    g.N.Door.Link.Link.traffic g.N.Door.Link.Link.marks g.N.Door.Link.Link.faults g.N.Door.Door.given_back
+    g.N.Door.Door.faults g.N.Door.Door.kind c.serve-end.new.publisher c.serve-end.result.1 c.args.stations.items c.deref_mut.result.now now
     (rw c.deref_mut.ensures.value c.in_default.ensures.opened) c.serve-end.ensures.workers saw in
     let doors = ap (λ list. map door_of list) written ∙ sym ended.doors in
     record {
-      end = c.serve-end.result;
+      end = c.serve-end.result.0;
       published = c.serve-end.new.publisher;
       given = g.N.Door.Door.given_back c.in-Ok.door;
       door = c.serve-end.new.door;
@@ -60,8 +66,14 @@ returns-clause-served g c =
       told = c.serve-end.ensures.officiates.told;
       works = works;
       runs = c.serve-end.ensures.officiates.runs;
+      events = c.serve-end.result.1;
+      none_below = c.serve-end.ensures.none_below;
+      hung = hung-on c.serve-end.new.hangs c.serve-end.result.1 c.serve-end.ensures.officiates.frames c.compare.ensures.hangs
+          c.serve-end.ensures.officiates.hung;
       crew = ended.crew;
       serves = ended.serves;
+      left = subst (λ (list : List g.row.X.Denot). AreStatesOf state list (left_by ended.crew))
+          (sym (c.close_doors-2.ensures.duties ∙ ap (λ list. duties_of list) written)) ended.left;
       doors = closes_then (g.N.Net.closed c.args.net.now) (g.N.Net.closed c.close-2.new.self) (g.N.Net.closed c.close_doors-2.new.net)
           (c.serve-end.new.door ∷ []) (doors_of ended.crew)
           (subst (λ (told : Option (List g.row.N-Door.Denot)). AppendsTold told c.serve-end.new.door (g.N.Net.closed c.close-2.new.self))
@@ -70,20 +82,20 @@ returns-clause-served g c =
           (g.N.Net.closed c.close_doors-2.new.net)) doors c.close_doors-2.ensures.closed);
       memory =
           c.lacks_memory.ensures
-          ∙ ap (λ lacked. is_lacking c.serve-end.result || lacked)
+          ∙ ap (λ lacked. is_lacking c.serve-end.result.0 || lacked)
           (c.lacked_memory-lacked.ensures
           ∙ (ap (λ list. list_any worker_lacked list) (c.deref-2.ensures.value ∙ written) ∙ sym ended.lacks));
-      deserted = alone_first _ (is_alone c.serve-end.result) (is_deserted (ends_of ended.crew)) c.is_alone.ensures
-          (none_alone g.N.Door.Link.Link.traffic g.N.Door.Link.Link.marks g.N.Door.Link.Link.faults g.N.Door.Door.given_back
-          g.N.Door.Door.faults g.N.Door.Door.kind c.serve-end.new.publisher (g.N.Dial.faults c.args.net.now) (g.N.Dial.faults c.close_doors-2.new.net)
-          (map post_at c.args.stations.items) ended.crew ended.serves);
+      deserted = alone_first _ (is_alone c.serve-end.result.0) (is_deserted (ends_of ended.crew)) c.is_alone.ensures
+          (none_alone g.X.ClientDuty.seat_of visits g.N.Door.Link.Link.traffic g.N.Door.Link.Link.marks g.N.Door.Link.Link.faults g.N.Door.Door.given_back
+          g.N.Door.Door.faults g.N.Door.Door.kind c.serve-end.new.publisher c.serve-end.result.1 (g.N.Dial.faults c.args.net.now) (g.N.Dial.faults c.close_doors-2.new.net)
+          (map (post_at state) c.args.stations.items) ended.crew ended.serves);
       failed = (
-        door_failed c.serve-end.result (g.N.Door.Door.faults c.serve-end.new.door) (g.N.Dial.faults c.args.net.now)
+        door_failed c.serve-end.result.0 (g.N.Door.Door.faults c.serve-end.new.door) (g.N.Dial.faults c.args.net.now)
             (g.N.Dial.faults c.serve-end.new.net) (g.N.Dial.faults c.close-2.new.self) (g.N.Dial.faults c.close_doors-2.new.net)
             no_less works.counted c.close-2.ensures.count c.close_doors-2.ensures.no_less,
-        failed_all g.N.Door.Link.Link.traffic g.N.Door.Link.Link.marks g.N.Door.Link.Link.faults g.N.Door.Door.given_back
-            g.N.Door.Door.faults g.N.Door.Door.kind c.serve-end.new.publisher (g.N.Dial.faults c.args.net.now) (g.N.Dial.faults c.close_doors-2.new.net)
-            (map post_at c.args.stations.items) ended.crew ended.serves
+        failed_all g.X.ClientDuty.seat_of visits g.N.Door.Link.Link.traffic g.N.Door.Link.Link.marks g.N.Door.Link.Link.faults g.N.Door.Door.given_back
+            g.N.Door.Door.faults g.N.Door.Door.kind c.serve-end.new.publisher c.serve-end.result.1 (g.N.Dial.faults c.args.net.now) (g.N.Dial.faults c.close_doors-2.new.net)
+            (map (post_at state) c.args.stations.items) ended.crew ended.serves
             (counts_within g.N.Door.Door.faults (doors_of ended.crew) (g.N.Dial.faults c.args.net.now) (g.N.Dial.faults c.close-2.new.self)
             (g.N.Dial.faults c.close_doors-2.new.net) (g.N.Dial.faults c.close_doors-2.new.net)
             (omega (arith, no_less, c.close-2.ensures.bound.0)) (omega arith)
@@ -91,15 +103,3 @@ returns-clause-served g c =
             (g.N.Dial.faults c.close-2.new.self) (g.N.Dial.faults c.close_doors-2.new.net)) list) doors c.close_doors-2.ensures.counted)),
       );
     }
-
-pub returns-clause-duties : goal.returns-clause-duties
-returns-clause-duties g c =
-    let now = c.serve-end.new.crew in
-    let written = with_items_is c.open_doors.new.crew now (search (rules, places)) in
-    let saw : AllByRecursion (SawOnly c.serve-end.new.publisher) now =
-    subst (λ list. AllByRecursion (SawOnly c.serve-end.new.publisher) list) (c.deref.ensures.value ∙ written) c.compare.ensures in
-    let ended = all_ended g.N.Door.Link.Link.traffic g.N.Door.Link.Link.marks g.N.Door.Link.Link.faults g.N.Door.Door.given_back
-    g.N.Door.Door.faults g.N.Door.Door.kind g.X.ClientDuty.goes c.serve-end.new.publisher c.args.stations.items c.deref_mut.result.now now
-    (rw c.deref_mut.ensures.value c.in_default.ensures.opened) c.serve-end.ensures.workers saw in
-    subst (λ list. AllZip g.X.ClientDuty.goes (duties_in (map duty_at c.args.stations.items)) list)
-    (sym (c.close_doors-2.ensures.duties ∙ ap (λ list. duties_of list) written)) ended.duties

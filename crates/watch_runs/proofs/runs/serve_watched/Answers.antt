@@ -1,7 +1,50 @@
-use Rattle.std.proofs.Common.{rules, ◌≡◌, ◌∙◌, ap}
-use Rattle.run_endings.specs.Outside.{sink_seen}
-use Rattle.watch_runs.proofs.Recorders.{on_some, journals_given}
+use Rattle.std.proofs.Common.{rules, ◌≡◌, ◌∙◌, List, Option, ap}
+use Rattle.live_desk.specs.Seat.{new_seats}
+use Rattle.run_endings.specs.Outside.{disk_seen, sink_seen}
+use Rattle.desk_server.specs.Monitored.{Post, post_of, VisitsWatched}
+use Rattle.serve_runs.specs.Duties.{states_of}
+use Rattle.serve_runs.specs.Run.{RunsServe}
+use Rattle.watch_runs.proofs.Recorders.{left_some, left_none, same_recorders, on_some, journals_given}
 use Rattle.watch_runs.proofs.runs.serve_watched.Goals as goal
+
+pub returns-in-Some-clause-runs : goal.returns-in-Some-clause-runs
+returns-in-Some-clause-runs g c =
+    let runs = c.run_service-run.ensures.runs in
+    left_some
+    (λ (left : Option (List Post)). RunsServe (λ (post : Post). post.seat)
+    (VisitsWatched g.N.Door.Link.Link.traffic g.N.Door.Link.Link.marks g.N.Door.Link.Link.faults)
+    g.N.Door.Link.Link.traffic g.N.Door.Link.Link.marks g.N.Door.Link.Link.faults g.N.Door.Door.given_back g.N.Door.Door.faults
+    g.N.Door.Door.kind (states_of post_of (new_seats c.args.workers) c.args.recorders.items) left c.run_service-run.result.ending
+    (disk_seen g.D.Disk.state g.D.Disk.moment g.D.Disk.left_since g.D.Disk.faults c.args.disk.now)
+    (disk_seen g.D.Disk.state g.D.Disk.moment g.D.Disk.left_since g.D.Disk.faults c.run_service-run.new.disk)
+    (g.N.Dial.faults c.args.net.now) (g.N.Dial.faults c.run_service-run.new.net)
+    (g.N.Net.closed c.args.net.now) (g.N.Net.closed c.run_service-run.new.net))
+    (λ now. now.items) c.run_service-run.result.duties c.in-Some.recorders runs.0 (search rules) runs.2 runs.1
+
+pub returns-in-Some-clause-same : goal.returns-in-Some-clause-same
+returns-in-Some-clause-same g c =
+    let (posts, runs, are) = returns-in-Some-clause-runs g c in
+    same_recorders g.N.Door.Link.Link.traffic g.N.Door.Link.Link.marks g.N.Door.Link.Link.faults g.N.Door.Door.given_back
+    g.N.Door.Door.faults g.N.Door.Door.kind c.args.workers c.args.recorders.items c.in-Some.recorders.items posts
+    c.run_service-run.result.ending
+    (disk_seen g.D.Disk.state g.D.Disk.moment g.D.Disk.left_since g.D.Disk.faults c.args.disk.now)
+    (disk_seen g.D.Disk.state g.D.Disk.moment g.D.Disk.left_since g.D.Disk.faults c.run_service-run.new.disk)
+    (g.N.Dial.faults c.args.net.now) (g.N.Dial.faults c.run_service-run.new.net)
+    (g.N.Net.closed c.args.net.now) (g.N.Net.closed c.run_service-run.new.net) c.requires.recorders runs are
+
+pub returns-clause-refuses : goal.returns-clause-refuses
+returns-clause-refuses g c =
+    let runs = c.run_service-run.ensures.runs in
+    left_none
+    (λ (left : Option (List Post)). RunsServe (λ (post : Post). post.seat)
+    (VisitsWatched g.N.Door.Link.Link.traffic g.N.Door.Link.Link.marks g.N.Door.Link.Link.faults)
+    g.N.Door.Link.Link.traffic g.N.Door.Link.Link.marks g.N.Door.Link.Link.faults g.N.Door.Door.given_back g.N.Door.Door.faults
+    g.N.Door.Door.kind (states_of post_of (new_seats c.args.workers) c.args.recorders.items) left c.run_service-run.result.ending
+    (disk_seen g.D.Disk.state g.D.Disk.moment g.D.Disk.left_since g.D.Disk.faults c.args.disk.now)
+    (disk_seen g.D.Disk.state g.D.Disk.moment g.D.Disk.left_since g.D.Disk.faults c.run_service-run.new.disk)
+    (g.N.Dial.faults c.args.net.now) (g.N.Dial.faults c.run_service-run.new.net)
+    (g.N.Net.closed c.args.net.now) (g.N.Net.closed c.run_service-run.new.net))
+    (λ now. now.items) c.run_service-run.result.duties runs.0 (search rules) runs.2 runs.1
 
 pub returns-in-Some-clause-journal : goal.returns-in-Some-clause-journal
 returns-in-Some-clause-journal g c =

@@ -1,40 +1,30 @@
-use Rattle.std.proofs.Common.{◌∙◌, refl}
-use Rattle.client_door.specs.parts.Talk.{with_read}
-use Rattle.client_door.proofs.InPlace.{goes_behind, stays_there}
+use Rattle.std.proofs.Common.{List, ℕ, MatchResult}
+use Rattle.live_desk.specs.Seat.{SeatState}
+use Rattle.desk_state.specs.DeskState.{DeskState}
+use Rattle.door_frames.specs.declared.endings.Ended.TheVariants.{Memory}
+use Rattle.client_door.specs.Recording.{Leads}
+use Rattle.client_door.specs.Serving.{ClientSide}
+use Rattle.client_door.specs.parts.Talk.{IsReadNow, ReadsAt, EndsReading, with_read}
+use Rattle.client_door.proofs.InPlace.{as_lent, piece_from}
 use Rattle.client_door.proofs.talking.Talk.answer_piece.Goals as goal
 
-pub loop-check-init : goal.loop-check-init
-loop-check-init g c = (refl, λ side since before fits. (before, fits, λ start s. s))
-
-pub loop-check-preserved : goal.loop-check-preserved
-loop-check-preserved g c = (
-  c.answer_front.ensures.feeder ∙ c.loop-check.invariant.0,
-  λ side since before fits. let first = c.loop-check.invariant.1 side since before fits in
-      let then = c.in-Ok-true.ensures.talk side c.loop-check.rest.now _ c.in-Some.ensures.whole since first.0 first.1 in (
-        then.0,
-        then.1,
-        λ start s. goes_behind (with_read side c.loop-check.seat first.0) (with_read side c.answer_front.new.seat then.0)
-            c.loop-check.rest.now c.loop-check.self.outbox c.answer_front.new.self.outbox c.in-Some.check.size c.in-Ok-true.field-0
-            c.in-Ok-true.field-0-test then.2 start (first.2 start s),
-      ),
-)
-
-pub returns-in-Ok-false-clause-talk : goal.returns-in-Ok-false-clause-talk
-returns-in-Ok-false-clause-talk g c side since before fits =
-    let first = c.loop-check.invariant.1 side since before fits in
-    let then = c.in-Ok-false.ensures.talk side c.loop-check.rest.now _ c.in-Some.ensures.whole since first.0 first.1 in (
-      then.0,
-      then.1,
-      λ start s. stays_there (with_read side c.loop-check.seat first.0) (with_read side c.answer_front.new.seat then.0)
-          c.loop-check.rest.now _ c.loop-check.self.outbox c.answer_front.new.self.outbox c.in-Ok-false.field-0
-          c.in-Ok-false.field-0-test then.2 start (first.2 start s),
-    )
-
-pub returns-in-Err-clause-talk : goal.returns-in-Err-clause-talk
-returns-in-Err-clause-talk g c side since before fits =
-    let first = c.loop-check.invariant.1 side since before fits in
-    let then = c.in-Err.ensures.talk side c.loop-check.rest.now _ c.in-Some.ensures.whole since first.0 first.1 in
-    (then.0, then.1, λ start s. then.2 start (first.2 start s))
-
 pub returns-clause-talk : goal.returns-clause-talk
-returns-clause-talk g c side since before fits = c.loop-check.invariant.1 side since before fits
+returns-clause-talk g c =
+    let held = c.hold_newest.ensures.held in
+    let call = held.4 in
+    let now_read : IsReadNow held.0 c.hold_newest.new.self = record { last = held.1; rising = held.2; fresh = held.3 } in
+    let reads = as_lent (λ (desk : DeskState) (waiting : List ℕ) (was : g.row.M.Denot) (after : List ℕ) (is : g.row.M.Denot).
+    (side : ClientSide) (seat : SeatState) → IsReadNow desk seat → MatchResult c.hold_newest.result
+    (λ rest. Leads (g.M.Records.fits was) (g.M.Records.fits is) (λ before told.
+    ReadsAt desk (with_read side seat before) c.args.piece.now waiting (with_read side seat told) rest.now after))
+    (λ _. Leads (g.M.Records.fits was) (g.M.Records.fits is) (λ before told.
+    EndsReading (with_read side seat before) c.args.piece.now waiting (with_read side seat told) Memory)))
+    call.shown.now held.0 call.one.now c.args.self.now.outbox call.other.now c.args.recorder.now call.left.1.0.now c.hold_newest.new.first
+    call.left.1.1.0.now c.hold_newest.new.second
+    call.shows call.lends.0 call.lends.1 call.leaves.0 call.leaves.1 call.met in (
+      held.0,
+      now_read,
+      λ side. piece_from (g.M.Records.fits c.args.recorder.now) (g.M.Records.fits c.hold_newest.new.second) c.hold_newest.result held.0 side
+          c.args.seat.now c.hold_newest.new.self c.args.piece.now c.args.self.now.outbox c.hold_newest.new.first c.hold_newest.ensures.same
+          c.hold_newest.ensures.seen now_read (reads side c.hold_newest.new.self now_read),
+    )

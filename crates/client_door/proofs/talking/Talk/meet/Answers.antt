@@ -27,7 +27,7 @@ returns-in-Ok-clause-talk g c side since before fits =
       failed = c.requires.failed;
       sound = c.requires.sound;
     } in
-    let then = c.in-Ok.ensures.talk side since before fits in
+    let then = c.in-Ok.ensures.talk.2 side since before fits in
     let heard : HearsMore c.in-Ok.rest.now c.args.self.now.feeder c.hear_piece-in-Ok.new.feeder =
     subst (λ (feeder : Feeding). HearsMore c.in-Ok.rest.now feeder c.hear_piece-in-Ok.new.feeder) c.answer_piece.ensures.feeder
     c.hear_piece-in-Ok.ensures.heard in (
@@ -37,7 +37,7 @@ returns-in-Ok-clause-talk g c side since before fits =
           c.in-Ok.rest.now c.answer_piece.new.self.outbox clean heard
           (c.hear_piece-in-Ok.ensures.side ∙ (ap (λ (feeder : Feeding). feeder.heard) c.answer_piece.ensures.feeder ∙ c.requires.side))
           (then.2 start (subst (λ list. Meets start (with_read side c.args.seat.now before) c.args.piece.now list) (sym c.requires.sent)
-          (meets_piece start (with_read side c.args.seat.now before) c.args.self.now.feeder c.args.piece.now clean met))),
+          (meets_piece start (with_read side c.args.seat.now before) c.args.self.now.feeder c.args.piece.now clean met))).0,
     )
 
 pub returns-in-Err-clause-talk : goal.returns-in-Err-clause-talk
@@ -49,7 +49,7 @@ returns-in-Err-clause-talk g c side since before fits =
       failed = c.requires.failed;
       sound = c.requires.sound;
     } in
-    let then = c.in-Err.ensures.talk side since before fits in (
+    let then = c.in-Err.ensures.talk.2 side since before fits in (
       then.0,
       then.1,
       λ start met. then.2 start

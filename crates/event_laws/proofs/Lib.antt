@@ -1,0 +1,11 @@
+pub mod Enabled
+pub mod Ends
+pub mod Registry
+pub mod Stopping
+pub mod History
+pub mod Storing
+pub mod Acknowledging
+pub mod Commanding
+pub mod Starting
+pub mod Serving
+pub mod Caches

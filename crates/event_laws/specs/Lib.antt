@@ -1,0 +1,5 @@
+pub mod Happens
+pub mod Service
+pub mod Store
+pub mod Worker
+pub mod Caching
