@@ -5,6 +5,7 @@ pub mod Questions
 pub mod Reading
 pub mod Steps
 pub mod Unsent
+pub mod Right
 pub mod Ending
 pub mod InPlace
 pub mod Complete

@@ -1,11 +1,12 @@
 -- A check that was answered: at which state, by which call for an agent, and with which reply.
 use Rattle.std.specs.Prelude.{◌≡◌, ℕ, List, [], ◌∷◌, ◌++◌, map, Option, Some, None, IsTrue}
-use Rattle.std.specs.List.{flat_map}
+use Rattle.std.specs.List.{flat_map, AllByRecursion}
 use Rattle.cynara_keys.specs.Key.{Question}
 use Rattle.desk_state.specs.DeskState.{DeskState}
 use Rattle.wire_reading.specs.Frame.{spelling, with_sequence}
 use Rattle.wire_fields.specs.declared.messages.Framed.{Framed}
 use Rattle.live_desk.specs.History.{last_commit}
+use Rattle.live_desk.specs.Seat.{SeatState}
 use Rattle.desk_world.specs.Links.{may_read}
 use Rattle.desk_world.specs.declared.links.Reading.{Reading}
 use Rattle.desk_world.specs.declared.links.Reading.TheVariants.{Ready, Due}
@@ -79,3 +80,10 @@ AreReadIn seen low (one ∷ more) =
 abbrev pub read_up_to : ℕ → List Answered → ℕ
 read_up_to low [] = low
 read_up_to low (one ∷ more) = read_up_to one.desk.commit more
+
+-- These bytes are right replies to checks, each read at a state that the seat has seen, no older than its note.
+abbrev pub AreRightAt : SeatState → List ℕ → Type 0
+AreRightAt seat bytes = (answered : List Answered)
+    × AllByRecursion IsRight answered
+    × AreReadIn seat.seen seat.note answered
+    × (bytes ≡ replies_bytes answered)

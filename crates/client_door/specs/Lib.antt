@@ -3,6 +3,7 @@ pub mod Asking
 pub mod Reading
 pub mod InPlace
 pub mod Answered
+pub mod Entered
 pub mod Recording
 pub mod Message
 pub mod Serving

@@ -6,11 +6,10 @@ ghost use Rattle.client_door.specs.Message.{check_in, AnswersCheck, RefusesCheck
 ghost use Rattle.client_door.specs.Message.{read_at, IsSeenLast, AnswersQuestion, IsRefused};
 
 use crate::asking::ask_agent;
+use crate::entries::{AskingHall, ClientLink};
 use cynara_keys::{Kind, Metadata, Question};
 use door_frames::Ended;
-use link_ports::Link;
 use live_desk::{BorrowedVerdict, Naming, Seat};
-use server_hall::Hall;
 use std::alloc::Global;
 use std::sync::Wait;
 use wire_messages::{Message, PackedVerdict};
@@ -33,7 +32,7 @@ pub(crate) enum Seen {
 
 /// Answers one message of a client, `Check` or `SimpleCheck`, as a connection over the link does, which it does not use but to
 /// see whether it stands while an agent is waited for. It may wait.
-pub fn answer_check<R: Wait, J: Naming, A: Hall, L: Link>(
+pub fn answer_check<R: Wait, J: Naming, A: AskingHall<J, L>, L: ClientLink<J>>(
     rt: &R,
     alloc: Global,
     seat: &mut Seat<J>,
@@ -60,7 +59,7 @@ pub fn answer_check<R: Wait, J: Naming, A: Hall, L: Link>(
     }
 }
 
-fn answer_question<R: Wait, J: Naming, A: Hall, L: Link>(
+fn answer_question<R: Wait, J: Naming, A: AskingHall<J, L>, L: ClientLink<J>>(
     rt: &R,
     alloc: Global,
     seat: &mut Seat<J>,
@@ -86,7 +85,7 @@ fn answer_question<R: Wait, J: Naming, A: Hall, L: Link>(
             commit,
             kind,
             metadata,
-        } => match ask_agent(hall, link, commit, kind, question, metadata) {
+        } => match ask_agent::<J, A, L>(hall, link, commit, kind, question, metadata) {
             Ok(reply) => Ok(reply.message()),
             Err(ended) => Err(ended),
         },

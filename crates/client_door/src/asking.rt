@@ -6,16 +6,17 @@ ghost use Rattle.link_ports.specs.Told.{KeepsTold};
 ghost use Rattle.client_door.specs.Asking.{AsksOnce, AsksInVain, LeadsToReply, LooksAtLink};
 
 use crate::AgentReply;
+use crate::entries::{AskingHall, ClientLink};
 use agent_table::{MOST_NUMBERS, MOST_OPEN, PutRefusal};
 use cynara_keys::{Kind, Metadata, Question};
 use door_frames::Ended;
-use link_ports::Link;
-use server_hall::{AskRefusal, Hall};
+use live_desk::Naming;
+use server_hall::AskRefusal;
 
 /// Puts a question to the agent of the kind, which the policies of the commit leave to it, and waits for what comes of it.
 /// Ends where the hall is stopped, where the question was lost or another one was found in its place, for want of memory, and
 /// as `Closed` where the asker's link was found down, so that the question was withdrawn.
-pub(crate) fn ask_agent<A: Hall, L: Link>(
+pub(crate) fn ask_agent<J: Naming, A: AskingHall<J, L>, L: ClientLink<J>>(
     hall: &mut A,
     link: &mut L,
     commit: u64,

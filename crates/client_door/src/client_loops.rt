@@ -3,21 +3,21 @@ ghost use Rattle.client_door.specs.Recording.{Leads};
 ghost use Rattle.client_door.specs.Serving.{client_side, recorded_side, Serves, Talks};
 
 use crate::Records;
+use crate::entries::{AskingHall, ClientHall, ClientLink, Entry};
 use crate::recording::Unrecorded;
 use crate::talking::Talk;
 use desk_ports::PortFault;
 use door_frames::{Ended, MOST_PIECE};
-use link_ports::{Gate, GateStep, Link};
+use link_ports::{Gate, GateStep};
 use live_desk::{Naming, Seat};
 use live_roll::Left;
-use server_hall::Hall;
 use std::alloc::Global;
 use std::sync::Wait;
 
 /// Serves one connection of a client: it enters the hall in the place of the seat, which then knows what happened in the
 /// roll up to this entry, each check is answered in turn, and it leaves. The replies to checks that came together are
 /// sent together. It passes the gate once it has entered, and once for each reply that was sent. It may wait.
-pub fn client_loop<R: Wait, J: Naming, A: Hall<List = J>, L: Link<End = A::End>, G: Gate>(
+pub fn client_loop<R: Wait, J: Naming, A: ClientHall<J, L>, L: ClientLink<J>, G: Gate>(
     rt: &R,
     alloc: Global,
     seat: &mut Seat<J>,
@@ -38,8 +38,8 @@ pub fn client_loop<R: Wait, J: Naming, A: Hall<List = J>, L: Link<End = A::End>,
 pub fn recorded_loop<
     R: Wait,
     J: Naming,
-    A: Hall<List = J>,
-    L: Link<End = A::End>,
+    A: ClientHall<J, L>,
+    L: ClientLink<J>,
     G: Gate,
     M: Records,
 >(
@@ -60,12 +60,13 @@ pub fn recorded_loop<
         Err(PortFault::Failed) => return Ended::LinkFault,
         Err(PortFault::Memory(_)) => return Ended::Memory,
     };
-    let Ok(entered) = hall.enter(end, seat) else {
+    let Ok(entry) = hall.enter(end, seat) else {
         return Ended::Stopped;
     };
     gate.pass(seat.number(), GateStep::Entered);
-    let ended = answer_all(rt, alloc, seat, hall, link, gate, recorder);
-    match hall.leave(seat.number(), entered) {
+    let ended = answer_all(rt, alloc, &entry, seat, hall, link, gate, recorder);
+    let entered = entry.note();
+    match hall.leave(entry) {
         Left::Hung { now } => Ended::Hung { entered, now },
         Left::Stopped { .. } => Ended::Stopped,
         Left::Still => ended,
@@ -73,9 +74,10 @@ pub fn recorded_loop<
 }
 
 // Answers the checks of a connection that has entered.
-fn answer_all<R: Wait, J: Naming, A: Hall, L: Link, G: Gate, M: Records>(
+fn answer_all<R: Wait, J: Naming, A: AskingHall<J, L>, L: ClientLink<J>, G: Gate, M: Records>(
     rt: &R,
     alloc: Global,
+    entry: &Entry<L>,
     seat: &mut Seat<J>,
     hall: &mut A,
     link: &mut L,
@@ -90,7 +92,7 @@ fn answer_all<R: Wait, J: Naming, A: Hall, L: Link, G: Gate, M: Records>(
     let mut talk = Talk::new(alloc);
     let mut room = [0u8; MOST_PIECE];
     for _ in rt.forever() {
-        if let Err(ended) = talk.turn(rt, seat, hall, link, gate, recorder, &mut room) {
+        if let Err(ended) = talk.turn(rt, entry, seat, hall, link, gate, recorder, &mut room) {
             return ended;
         }
     }

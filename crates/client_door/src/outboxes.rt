@@ -1,6 +1,7 @@
 ghost use Rattle.std.specs.Prelude.{◌≡◌, ◌++◌, [], MatchResult, OnOk, OnErr};
 ghost use Rattle.desk_ports.specs.Faults.{next_count};
 ghost use Rattle.link_ports.specs.Told.{ChangesTold};
+ghost use Rattle.client_door.specs.Answered.{AreRightAt};
 ghost use Rattle.client_door.specs.Recording.{Leads, with_all_recorded};
 ghost use Rattle.client_door.specs.InPlace.{Rules};
 ghost use Rattle.bucket_eval.specs.Lent.{outcome_lent};
@@ -9,11 +10,12 @@ ghost use Rattle.door_frames.specs.Carried.{Carried};
 ghost use Rattle.door_frames.specs.declared.endings.Ended.TheVariants.{LinkFault};
 
 use crate::Records;
+use crate::entries::{ClientLink, Entry};
 use crate::judging::{Ruling, judge_check};
 use desk_ports::Bytes;
 use door_frames::Ended;
-use link_ports::{Gate, GateStep, Link};
-use live_desk::BorrowedVerdict;
+use link_ports::{Gate, GateStep};
+use live_desk::{BorrowedVerdict, Naming, Seat};
 use std::alloc::{AllocError, Global};
 use std::marker::Model;
 use wire_messages::LentCheck;
@@ -66,13 +68,15 @@ impl Outbox {
     }
 
     /// Sends the replies that wait, and then records the checks that were noted. May wait.
-    pub fn flush<L: Link, G: Gate, M: Records>(
+    pub fn flush<J: Naming, L: ClientLink<J>, G: Gate, M: Records>(
         &mut self,
+        entry: &Entry<L>,
+        seat: &Seat<J>,
         link: &mut L,
-        seat: u32,
         gate: &G,
         recorder: &mut M,
     ) -> Result<(), Ended>
+        requires { AreRightAt seat.now self.old }
         ensures sent { OnOk result (Carried (L.traffic link.old) (L.traffic link.new) [] self.old) }
         ensures empty { OnOk result (self.new ≡ []) }
         ensures faults { OnOk result (L.faults link.new ≡ L.faults link.old) }
@@ -84,7 +88,7 @@ impl Outbox {
             (λ ended. (ended ≡ LinkFault) × (L.faults link.new ≡ next_count (L.faults link.old))) }
         ensures marks { L.marks link.new ≡ L.marks link.old }
     {
-        match self.send_all(link, seat, gate) {
+        match self.send_all(entry, seat, link, gate) {
             Ok(()) => {
                 recorder.record_noted();
                 Ok(())
@@ -94,7 +98,14 @@ impl Outbox {
     }
 
     // Sends the replies that wait, if there are any, with one call of the link; and then passes the gate once for each.
-    fn send_all<L: Link, G: Gate>(&mut self, link: &mut L, seat: u32, gate: &G) -> Result<(), Ended>
+    fn send_all<J: Naming, L: ClientLink<J>, G: Gate>(
+        &mut self,
+        entry: &Entry<L>,
+        seat: &Seat<J>,
+        link: &mut L,
+        gate: &G,
+    ) -> Result<(), Ended>
+        requires { AreRightAt seat.now self.old }
         ensures sent { OnOk result (Carried (L.traffic link.old) (L.traffic link.new) [] self.old) }
         ensures empty { OnOk result (self.new ≡ []) }
         ensures faults { OnOk result (L.faults link.new ≡ L.faults link.old) }
@@ -107,11 +118,11 @@ impl Outbox {
         if self.bytes.len() == 0 {
             return Ok(());
         }
-        let Ok(()) = link.send(self.bytes.as_slice()) else {
+        let Ok(()) = link.send_right(entry, seat, self.bytes.as_slice()) else {
             return Err(Ended::LinkFault);
         };
         self.bytes.clear();
-        pass_each(gate, seat, self.replies);
+        pass_each(gate, seat.number(), self.replies);
         self.replies = 0;
         Ok(())
     }

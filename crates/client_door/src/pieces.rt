@@ -8,7 +8,7 @@ ghost use Rattle.client_door.specs.Check.{framed_of};
 ghost use Rattle.client_door.specs.InPlace.{check_read};
 ghost use Rattle.client_door.specs.Recording.{Leads};
 ghost use Rattle.client_door.specs.Serving.{ClientSide};
-ghost use Rattle.client_door.specs.parts.Talk.{IsReadNow, ReadsAt, EndsReading, with_read};
+ghost use Rattle.client_door.specs.parts.Talk.{IsReadNow, KeepsRight, ReadsAt, EndsReading, with_read};
 
 use crate::judging::Ruling;
 use crate::outboxes::Outbox;
@@ -27,11 +27,12 @@ pub(crate) fn answer_at_one_state<'a, M: Records>(
     recorder: &mut M,
     piece: &'a [u8],
 ) -> Result<&'a [u8], AllocError>
-    ensures { (side : ClientSide) (seat : SeatState) → IsReadNow desk.now seat → MatchResult result
+    ensures read { (side : ClientSide) (seat : SeatState) → IsReadNow desk.now seat → MatchResult result
         (λ rest. Leads (M.fits recorder.old) (M.fits recorder.new) (λ before after.
         ReadsAt desk.now (with_read side seat before) piece.now outbox.old (with_read side seat after) rest.now outbox.new))
         (λ _. Leads (M.fits recorder.old) (M.fits recorder.new) (λ before after.
         EndsReading (with_read side seat before) piece.now outbox.old (with_read side seat after) Memory)) }
+    ensures right { KeepsRight desk.now outbox.old outbox.new }
 {
     let mut rest = piece;
     while let Some(check) = check_in_front(rest) {
@@ -52,13 +53,14 @@ fn answer_front<M: Records>(
     recorder: &mut M,
     check: &LentCheck<'_>,
 ) -> Result<bool, AllocError>
-    ensures { (side : ClientSide) (seat : SeatState) (ahead behind : List ℕ) → IsReadNow desk.now seat
+    ensures read { (side : ClientSide) (seat : SeatState) (ahead behind : List ℕ) → IsReadNow desk.now seat
         → first_of AtClient ahead ≡ Whole (framed_of (check_read check.now)) behind → MatchResult result
         (λ judged. Leads (M.fits recorder.old) (M.fits recorder.new) (λ before after.
         ReadsAt desk.now (with_read side seat before) ahead outbox.old
         (with_read side seat after) (if judged then behind else ahead) outbox.new))
         (λ _. Leads (M.fits recorder.old) (M.fits recorder.new) (λ before after.
         EndsReading (with_read side seat before) ahead outbox.old (with_read side seat after) Memory)) }
+    ensures right { KeepsRight desk.now outbox.old outbox.new }
 {
     let verdict = desk.verdict(scratch, &check.question);
     match outbox.judge(check, &verdict) {

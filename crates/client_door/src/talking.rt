@@ -6,22 +6,23 @@ ghost use Rattle.wire_fields.specs.declared.operations.Heard.TheVariants.{AtClie
 ghost use Rattle.wire_reading.specs.Stream.{unfed};
 ghost use Rattle.door_frames.specs.Hearing.{IsSound};
 ghost use Rattle.door_frames.specs.declared.endings.Ended.TheVariants.{Memory};
+ghost use Rattle.client_door.specs.Answered.{AreRightAt};
 ghost use Rattle.client_door.specs.Recording.{Leads};
 ghost use Rattle.client_door.specs.Serving.{ClientSide, Talks, recorded_side};
-ghost use Rattle.client_door.specs.parts.Talk.{Goes, Ends, Stands, HasPiece, IsReadNow, ReadsAt, EndsReading};
+ghost use Rattle.client_door.specs.parts.Talk.{Goes, Ends, Stands, HasPiece, IsReadNow, KeepsRight, ReadsAt, EndsReading};
 ghost use Rattle.client_door.specs.parts.Talk.{with_sent, with_read};
 
 mod waiting;
 
 use crate::Records;
+use crate::entries::{AskingHall, ClientLink, Entry};
 use crate::outboxes::Outbox;
 use crate::pieces::answer_at_one_state;
 use bucket_eval::Scratch;
 use desk_ports::Bytes;
-use door_frames::{Ended, hear_piece, receive_piece};
-use link_ports::{Gate, Link};
+use door_frames::{Ended, hear_piece};
+use link_ports::Gate;
 use live_desk::{DeskCopy, Naming, Seat};
-use server_hall::Hall;
 use std::alloc::{AllocError, Global};
 use std::sync::Wait;
 use wire_messages::{Feeder, Heard};
@@ -51,9 +52,10 @@ impl Talk {
     }
 
     /// Answers all checks that were heard, sends the replies, and receives more. It may wait.
-    pub fn turn<R: Wait, J: Naming, A: Hall, L: Link, G: Gate, M: Records>(
+    pub fn turn<R: Wait, J: Naming, A: AskingHall<J, L>, L: ClientLink<J>, G: Gate, M: Records>(
         &mut self,
         rt: &R,
+        entry: &Entry<L>,
         seat: &mut Seat<J>,
         hall: &mut A,
         link: &mut L,
@@ -64,8 +66,10 @@ impl Talk {
         requires some { 0 < length room.old }
         requires side { self.old.feeder.heard ≡ AtClient }
         requires sound { IsSound self.old.feeder }
+        requires right { AreRightAt seat.old self.old.outbox }
         ensures side { OnOk result (self.new.feeder.heard ≡ AtClient) }
         ensures sound { OnOk result (IsSound self.new.feeder) }
+        ensures right { OnOk result (AreRightAt seat.new self.new.outbox) }
         ensures talk { MatchResult result
             (λ _. Leads (M.fits recorder.old) (M.fits recorder.new) (λ before after. Goes
             (recorded_side seat.old (A.tally hall.old) (A.calls hall.old) (L.traffic link.old) (L.marks link.old) (L.faults link.old) before)
@@ -77,10 +81,10 @@ impl Talk {
             (record { feeder = self.old.feeder; waiting = self.old.outbox; taken = [] })
             (recorded_side seat.new (A.tally hall.new) (A.calls hall.new) (L.traffic link.new) (L.marks link.new) (L.faults link.new) after) ended)) }
     {
-        if let Err(ended) = self.answer_waiting(rt, seat, hall, link, gate, recorder) {
+        if let Err(ended) = self.answer_waiting(rt, entry, seat, hall, link, gate, recorder) {
             return Err(ended);
         }
-        match self.send_and_receive(link, seat.number(), gate, recorder, room) {
+        match self.send_and_receive(entry, seat, link, gate, recorder, room) {
             Ok(count) => match self.meet(rt, seat, recorder, &room[..count]) {
                 Ok(()) => Ok(()),
                 Err(ended) => Err(ended),
@@ -90,10 +94,11 @@ impl Talk {
     }
 
     // Sends the replies that wait, and receives a piece, which is not heard yet: how many bytes it has.
-    fn send_and_receive<L: Link, G: Gate, M: Records>(
+    fn send_and_receive<J: Naming, L: ClientLink<J>, G: Gate, M: Records>(
         &mut self,
+        entry: &Entry<L>,
+        seat: &Seat<J>,
         link: &mut L,
-        seat: u32,
         gate: &G,
         recorder: &mut M,
         room: &mut [u8],
@@ -102,6 +107,7 @@ impl Talk {
         requires all { self.old.feeder.waiting ≡ [] }
         requires side { self.old.feeder.heard ≡ AtClient }
         requires sound { IsSound self.old.feeder }
+        requires right { AreRightAt seat.now self.old.outbox }
         ensures within { IfOk result (λ count. count ≤ length room.new) }
         ensures failed { OnOk result (self.new.feeder.failed ≡ None) }
         ensures feeder { OnOk result (self.new.feeder ≡ self.old.feeder) }
@@ -116,10 +122,10 @@ impl Talk {
             (record { feeder = self.old.feeder; waiting = self.old.outbox; taken = [] })
             (with_sent side (L.traffic link.new) (L.marks link.new) (L.faults link.new) after) ended)) }
     {
-        if let Err(ended) = self.outbox.flush(link, seat, gate, recorder) {
+        if let Err(ended) = self.outbox.flush(entry, seat, link, gate, recorder) {
             return Err(ended);
         }
-        match receive_piece(link, &mut self.feeder, room) {
+        match link.receive_piece(&mut self.feeder, room) {
             Ok(count) => Ok(count),
             Err(ended) => Err(ended),
         }
@@ -141,6 +147,7 @@ impl Talk {
         requires failed { self.old.feeder.failed ≡ None }
         ensures side { OnOk result (self.new.feeder.heard ≡ AtClient) }
         ensures sound { OnOk result (IsSound self.new.feeder) }
+        ensures right { OnOk result (AreRightAt seat.new self.new.outbox) }
         ensures talk { (side : ClientSide) → MatchResult result
             (λ _. Leads (M.fits recorder.old) (M.fits recorder.new) (λ before after. (start : ClientSide)
             → HasPiece start (with_read side seat.old before) self.old.feeder piece.now
@@ -173,6 +180,7 @@ impl Talk {
         piece: &'a [u8],
     ) -> Result<&'a [u8], AllocError>
         ensures feeder { self.new.feeder ≡ self.old.feeder }
+        ensures right { AreRightAt seat.old self.old.outbox → AreRightAt seat.new self.new.outbox }
         ensures talk { (desk : DeskState) × IsReadNow desk seat.new × ((side : ClientSide) → MatchResult result
             (λ rest. Leads (M.fits recorder.old) (M.fits recorder.new) (λ before after. ReadsAt desk
             (with_read side seat.old before) piece.now self.old.outbox (with_read side seat.new after) rest.now self.new.outbox))
@@ -185,11 +193,12 @@ impl Talk {
             recorder,
             // proof: the clause that is inferred for it gets no proof where a value of a type parameter is lent.
             move |desk: &DeskCopy, scratch: &mut Scratch, outbox: &mut Outbox, recorder: &mut M|
-                ensures { (side : ClientSide) (seat : SeatState) → IsReadNow desk.now seat → MatchResult result
+                ensures { ((side : ClientSide) (seat : SeatState) → IsReadNow desk.now seat → MatchResult result
                     (λ rest. Leads (M.fits recorder.old) (M.fits recorder.new) (λ before after. ReadsAt desk.now
                     (with_read side seat before) piece.entry.now outbox.old (with_read side seat after) rest.now outbox.new))
                     (λ _. Leads (M.fits recorder.old) (M.fits recorder.new) (λ before after. EndsReading
-                    (with_read side seat before) piece.entry.now outbox.old (with_read side seat after) Memory)) }
+                    (with_read side seat before) piece.entry.now outbox.old (with_read side seat after) Memory)))
+                    × KeepsRight desk.now outbox.old outbox.new }
             { answer_at_one_state(desk, scratch, outbox, recorder, piece) },
         )
     }

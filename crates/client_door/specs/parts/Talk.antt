@@ -15,7 +15,7 @@ use Rattle.server_hall.specs.Told.{AppendsCalls}
 use Rattle.server_hall.specs.declared.calls.HallCall.TheVariants.{Ask}
 use Rattle.door_frames.specs.Carried.{Carried}
 use Rattle.door_frames.specs.Hearing.{HasHeard, IsSound}
-use Rattle.client_door.specs.Answered.{Answered, IsRight, frames_of, replies_bytes, calls_for, after_asks, AreReadIn}
+use Rattle.client_door.specs.Answered.{Answered, IsRight, frames_of, replies_bytes, calls_for, after_asks, AreReadIn, AreRightAt}
 use Rattle.client_door.specs.Check.{framed_of}
 use Rattle.client_door.specs.declared.judgements.Judgement.{Judgement}
 use Rattle.client_door.specs.Recording.{Recording, with_none_waiting, judged_in}
@@ -89,6 +89,10 @@ pub record IsReadNow (desk : DeskState) (seat : SeatState) : Type 0 where
   pub last : IsLast seat.seen desk
   pub rising : Rises seat.seen
   pub fresh : seat.note ≤ desk.commit
+
+-- Right replies stay so, at any seat at which this state is read.
+abbrev pub KeepsRight : DeskState → List ℕ → List ℕ → Type 0
+KeepsRight desk old new = (seat : SeatState) → IsReadNow desk seat → AreRightAt seat old → AreRightAt seat new
 
 -- ---- a piece that was received
 

@@ -9,6 +9,7 @@ ghost use Rattle.wire_fields.specs.declared.operations.Heard.TheVariants.{AtClie
 ghost use Rattle.wire_reading.specs.Frame.{spelling, with_sequence};
 ghost use Rattle.door_frames.specs.Hearing.{IsSound};
 ghost use Rattle.door_frames.specs.declared.endings.Ended.TheVariants.{Memory};
+ghost use Rattle.client_door.specs.Answered.{AreRightAt};
 ghost use Rattle.client_door.specs.Check.{message_of, reply_of};
 ghost use Rattle.client_door.specs.Reading.{cause_at, reading, Finds};
 ghost use Rattle.link_ports.specs.Told.{ChangesTold};
@@ -20,6 +21,7 @@ ghost use Rattle.client_door.specs.parts.Talk.{Goes, Ends, IsReadNow, Notes};
 use super::Talk;
 use crate::asking::ask_agent;
 use crate::checks::{Check, take_check};
+use crate::entries::{AskingHall, ClientLink, Entry};
 use crate::readings::{Found, KeptRead, read_check};
 use crate::spelling::spell;
 use crate::{AgentReply, Decision, Keeps, Records};
@@ -27,9 +29,8 @@ use core::mem::replace;
 use cynara_keys::{Kind, Metadata, Question};
 use desk_ports::Bytes;
 use door_frames::Ended;
-use link_ports::{Gate, Link};
+use link_ports::Gate;
 use live_desk::{Naming, Seat};
-use server_hall::Hall;
 use std::sync::Wait;
 
 /// What was read for a check, and what is kept of the cause.
@@ -41,9 +42,17 @@ pub(crate) struct KeptFound<K: Keeps> {
 
 impl Talk {
     /// Answers all checks that were heard. Some replies may not be sent yet.
-    pub(super) fn answer_waiting<R: Wait, J: Naming, A: Hall, L: Link, G: Gate, M: Records>(
+    pub(super) fn answer_waiting<
+        R: Wait,
+        J: Naming,
+        A: AskingHall<J, L>,
+        L: ClientLink<J>,
+        G: Gate,
+        M: Records,
+    >(
         &mut self,
         rt: &R,
+        entry: &Entry<L>,
         seat: &mut Seat<J>,
         hall: &mut A,
         link: &mut L,
@@ -52,9 +61,11 @@ impl Talk {
     ) -> Result<(), Ended>
         requires side { self.old.feeder.heard ≡ AtClient }
         requires sound { IsSound self.old.feeder }
+        requires right { AreRightAt seat.old self.old.outbox }
         ensures side { OnOk result (self.new.feeder.heard ≡ AtClient) }
         ensures sound { OnOk result (IsSound self.new.feeder) }
         ensures all { OnOk result (self.new.feeder.waiting ≡ []) }
+        ensures right { OnOk result (AreRightAt seat.new self.new.outbox) }
         ensures talk { MatchResult result
             (λ _. Leads (M.fits recorder.old) (M.fits recorder.new) (λ before after. Goes
             (recorded_side seat.old (A.tally hall.old) (A.calls hall.old) (L.traffic link.old) (L.marks link.old) (L.faults link.old) before)
@@ -67,7 +78,9 @@ impl Talk {
             (recorded_side seat.new (A.tally hall.new) (A.calls hall.new) (L.traffic link.new) (L.marks link.new) (L.faults link.new) after) ended)) }
     {
         while let Some(check) = take_check(&mut self.feeder) {
-            if let Err(ended) = self.answer_check(rt, seat, hall, link, gate, recorder, check) {
+            if let Err(ended) = self.answer_check(
+                rt, entry, seat, hall, link, gate, recorder, check,
+            ) {
                 return Err(ended);
             }
         }
@@ -75,9 +88,10 @@ impl Talk {
     }
 
     // Answers a check that was taken. The replies before it are sent before an agent is waited for.
-    fn answer_check<R: Wait, J: Naming, A: Hall, L: Link, G: Gate, M: Records>(
+    fn answer_check<R: Wait, J: Naming, A: AskingHall<J, L>, L: ClientLink<J>, G: Gate, M: Records>(
         &mut self,
         rt: &R,
+        entry: &Entry<L>,
         seat: &mut Seat<J>,
         hall: &mut A,
         link: &mut L,
@@ -85,8 +99,10 @@ impl Talk {
         recorder: &mut M,
         check: Check,
     ) -> Result<(), Ended>
-        requires { self.old.feeder.heard ≡ AtClient }
+        requires side { self.old.feeder.heard ≡ AtClient }
+        requires right { AreRightAt seat.old self.old.outbox }
         ensures feeder { self.new.feeder ≡ self.old.feeder }
+        ensures right { OnOk result (AreRightAt seat.new self.new.outbox) }
         ensures talk { MatchResult result
             (λ _. Leads (M.fits recorder.old) (M.fits recorder.new) (λ before after. Goes
             (recorded_side seat.old (A.tally hall.old) (A.calls hall.old) (L.traffic link.old) (L.marks link.old) (L.faults link.old) before)
@@ -125,9 +141,8 @@ impl Talk {
                 kind,
                 metadata,
             } => {
-                let number = seat.number();
                 let answered = self.answer_by_agent(
-                    hall, link, gate, recorder, number, &check, commit, kind, metadata, &kept,
+                    entry, seat, hall, link, gate, recorder, &check, commit, kind, metadata, &kept,
                 );
                 drop(check);
                 match answered {
@@ -164,13 +179,14 @@ impl Talk {
     }
 
     // Answers a check that the policies of the commit leave to an agent, for the cause of which so much is kept.
-    fn answer_by_agent<A: Hall, L: Link, G: Gate, M: Records>(
+    fn answer_by_agent<J: Naming, A: AskingHall<J, L>, L: ClientLink<J>, G: Gate, M: Records>(
         &mut self,
+        entry: &Entry<L>,
+        seat: &Seat<J>,
         hall: &mut A,
         link: &mut L,
         gate: &G,
         recorder: &mut M,
-        seat: u32,
         check: &Check,
         commit: u64,
         kind: Kind,
@@ -179,7 +195,10 @@ impl Talk {
     ) -> Result<(), Ended>
         requires agent { IsTrue (is_agent kind.0) }
         requires side { self.old.feeder.heard ≡ AtClient }
+        requires right { AreRightAt seat.now self.old.outbox }
+        requires due { (desk : DeskState) × IsReadNow desk seat.now × (reading desk check.now ≡ IsDue commit kind metadata) }
         ensures feeder { self.new.feeder ≡ self.old.feeder }
+        ensures right { OnOk result (AreRightAt seat.now self.new.outbox) }
         ensures talk { (reader : SeatState) (desk : DeskState) → IsReadNow desk reader
             → reading desk check.now ≡ IsDue commit kind metadata → M.Kept.tells kept.now (cause_at desk check.now.question)
             → MatchResult result
@@ -193,10 +212,10 @@ impl Talk {
             (record { feeder = self.old.feeder; waiting = self.old.outbox; taken = check.now ∷ [] })
             (recorded_side reader (A.tally hall.new) (A.calls hall.new) (L.traffic link.new) (L.marks link.new) (L.faults link.new) after) ended)) }
     {
-        if let Err(ended) = self.outbox.flush(link, seat, gate, recorder) {
+        if let Err(ended) = self.outbox.flush(entry, seat, link, gate, recorder) {
             return Err(ended);
         }
-        match ask_agent(hall, link, commit, kind, &check.question, metadata) {
+        match ask_agent::<J, A, L>(hall, link, commit, kind, &check.question, metadata) {
             Ok(reply) => match self.tell(recorder, check, reply, kept) {
                 Ok(()) => Ok(()),
                 Err(ended) => Err(ended),

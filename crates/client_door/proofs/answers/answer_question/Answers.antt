@@ -18,7 +18,7 @@ returns-in-Judged-clause-answer g c =
         answers = subst (λ (seen : Reading). Answers seen c.args.question.now None (Judged c.in-Judged.verdict)) (sym read.2) (refl, refl);
         answer_is = refl;
         counted = refl;
-        told = calls_same (g.A.Hall.calls c.args.hall.now);
+        told = calls_same (g.A.AskingHall.calls c.args.hall.now);
       },
     )
 
@@ -35,7 +35,7 @@ returns-in-NotResolved-clause-answer g c =
             (sym read.2) (refl, refl);
         answer_is = refl;
         counted = refl;
-        told = calls_same (g.A.Hall.calls c.args.hall.now);
+        told = calls_same (g.A.AskingHall.calls c.args.hall.now);
       },
     )
 

@@ -7,9 +7,9 @@ pub returns : goal.returns
 returns g c =
     let told = c.recorded_loop.ensures (record {}) None refl in
     subst (λ (recording : Option Recording). Serves c.recorded_loop.result
-    (client_side c.args.seat.now (g.A.Hall.tally c.args.hall.now) (g.A.Hall.calls c.args.hall.now) (g.L.Link.traffic c.args.link.now)
-    (g.L.Link.marks c.args.link.now) (g.L.Link.faults c.args.link.now))
-    (recorded_side c.recorded_loop.new.seat (g.A.Hall.tally c.recorded_loop.new.hall) (g.A.Hall.calls c.recorded_loop.new.hall)
-    (g.L.Link.traffic c.recorded_loop.new.link) (g.L.Link.marks c.recorded_loop.new.link) (g.L.Link.faults c.recorded_loop.new.link)
+    (client_side c.args.seat.now (g.A.AskingHall.tally c.args.hall.now) (g.A.AskingHall.calls c.args.hall.now) (g.L.ClientLink.traffic c.args.link.now)
+    (g.L.ClientLink.marks c.args.link.now) (g.L.ClientLink.faults c.args.link.now))
+    (recorded_side c.recorded_loop.new.seat (g.A.AskingHall.tally c.recorded_loop.new.hall) (g.A.AskingHall.calls c.recorded_loop.new.hall)
+    (g.L.ClientLink.traffic c.recorded_loop.new.link) (g.L.ClientLink.marks c.recorded_loop.new.link) (g.L.ClientLink.faults c.recorded_loop.new.link)
     recording))
     told.1 told.2

@@ -11,7 +11,7 @@ returns-in_default g c since before fits = (
     seat = c.in_default.ensures.untold;
     calls = c.enter.ensures.calls;
     recording = refl;
-    carried = carried_nothing (g.L.Link.traffic c.args.link.now) (g.L.Link.traffic c.hang_end.new.self) c.hang_end.ensures.kept;
+    carried = carried_nothing (g.L.ClientLink.traffic c.args.link.now) (g.L.ClientLink.traffic c.hang_end.new.self) c.hang_end.ensures.kept;
   }),
 )
 

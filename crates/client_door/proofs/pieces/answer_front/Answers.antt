@@ -11,11 +11,12 @@ use Rattle.client_door.specs.Recording.{Recording}
 use Rattle.client_door.specs.parts.Talk.{with_read}
 use Rattle.client_door.specs.declared.judging.Ruling.{Ruling}
 use Rattle.client_door.proofs.Recorded.{notes_judged}
+use Rattle.client_door.proofs.Right.{keeps_right}
 use Rattle.client_door.proofs.InPlace.{answers_front, leaves_front, ends_front}
 use Rattle.client_door.proofs.pieces.answer_front.Goals as goal
 
-pub returns-in-Ok : goal.returns-in-Ok
-returns-in-Ok g c side seat ahead behind now_read first since before fits =
+pub returns-in-Ok-clause-read : goal.returns-in-Ok-clause-read
+returns-in-Ok-clause-read g c side seat ahead behind now_read first since before fits =
     let seen : reading_of c.verdict-verdict.result.commit c.args.check.now.simple (outcome_lent c.verdict-verdict.result.answer)
     ≡ reading c.args.desk.now (check_read c.args.check.now) =
     λ i. reading_of (c.verdict-verdict.ensures.commit i) c.args.check.now.simple (c.verdict-verdict.ensures.answer i) in
@@ -36,21 +37,41 @@ returns-in-Ok g c side seat ahead behind now_read first since before fits =
           put first,
     )
 
-pub returns-in-Ruled : goal.returns-in-Ruled
-returns-in-Ruled g c side seat ahead behind now_read first since before fits =
+pub returns-in-Ruled-clause-read : goal.returns-in-Ruled-clause-read
+returns-in-Ruled-clause-read g c side seat ahead behind now_read first since before fits =
     let told = c.in-Err.ensures since before fits in (
       before,
       subst (λ (recording : Option Recording). g.M.Records.fits c.note.new.self since recording) told.2 told.1,
       ends_front (with_read side seat before) ahead c.args.outbox.now,
     )
 
-pub returns-in-Left : goal.returns-in-Left
-returns-in-Left g c side seat ahead behind now_read first since before fits =
+pub returns-in-Left-clause-read : goal.returns-in-Left-clause-read
+returns-in-Left-clause-read g c side seat ahead behind now_read first since before fits =
     let same = subst (λ (ruling : Ruling). Rules c.args.check.now.sequence
     (reading_of c.verdict-verdict.result.commit c.args.check.now.simple (outcome_lent c.verdict-verdict.result.answer))
     c.args.outbox.now c.judge.new.self ruling) c.in-Left.is c.judge.ensures in
     (before, fits, leaves_front c.args.desk.now (with_read side seat before) ahead c.args.outbox.now c.judge.new.self same)
 
-pub returns : goal.returns
-returns g c side seat ahead behind now_read first since before fits =
+pub returns-clause-read : goal.returns-clause-read
+returns-clause-read g c side seat ahead behind now_read first since before fits =
     (before, fits, ends_front (with_read side seat before) ahead c.args.outbox.now)
+
+pub returns-in-Ok-clause-right : goal.returns-in-Ok-clause-right
+returns-in-Ok-clause-right g c =
+    keeps_right c.args.desk.now c.args.check.now c.verdict-verdict.result c.args.outbox.now c.judge.new.self c.judge.result
+    c.verdict-verdict.ensures.commit c.verdict-verdict.ensures.answer c.judge.ensures
+
+pub returns-in-Ruled-clause-right : goal.returns-in-Ruled-clause-right
+returns-in-Ruled-clause-right g c =
+    keeps_right c.args.desk.now c.args.check.now c.verdict-verdict.result c.args.outbox.now c.judge.new.self c.judge.result
+    c.verdict-verdict.ensures.commit c.verdict-verdict.ensures.answer c.judge.ensures
+
+pub returns-in-Left-clause-right : goal.returns-in-Left-clause-right
+returns-in-Left-clause-right g c =
+    keeps_right c.args.desk.now c.args.check.now c.verdict-verdict.result c.args.outbox.now c.judge.new.self c.judge.result
+    c.verdict-verdict.ensures.commit c.verdict-verdict.ensures.answer c.judge.ensures
+
+pub returns-clause-right : goal.returns-clause-right
+returns-clause-right g c =
+    keeps_right c.args.desk.now c.args.check.now c.verdict-verdict.result c.args.outbox.now c.judge.new.self c.judge.result
+    c.verdict-verdict.ensures.commit c.verdict-verdict.ensures.answer c.judge.ensures

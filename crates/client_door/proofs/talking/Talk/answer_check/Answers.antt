@@ -1,12 +1,14 @@
 use Rattle.std.proofs.Common.{◌∙◌, List, ℕ, [], ◌++◌, Option, refl, sym, ap, subst}
 use Rattle.wire_reading.specs.Stream.{Feeding}
 use Rattle.desk_world.specs.declared.replies.Reply.TheVariants.{Judged, NotResolved}
+use Rattle.client_door.specs.Answered.{AreRightAt}
 use Rattle.client_door.specs.Reading.{cause_at, reading, Finds}
 use Rattle.client_door.specs.Recording.{Recording}
 use Rattle.client_door.specs.Serving.{recorded_side}
 use Rattle.client_door.specs.parts.Talk.{Stands}
 use Rattle.client_door.specs.declared.readings.Found.{Found}
 use Rattle.client_door.proofs.Recorded.{notes_judged, notes_nothing}
+use Rattle.client_door.proofs.Right.{right_by_policies, right_later}
 use Rattle.client_door.proofs.Ending.{reads_and_puts, reads_for_nothing, reads_on}
 use Rattle.client_door.proofs.talking.Talk.answer_check.Goals as goal
 
@@ -20,17 +22,17 @@ returns-in-Ok-clause-talk g c since before fits =
       told.0,
       told.1,
       λ start s. subst (λ (feeder : Feeding). Stands start
-          (recorded_side c.read-found.new.seat (g.A.Hall.tally c.args.hall.now) (g.A.Hall.calls c.args.hall.now)
-          (g.L.Link.traffic c.args.link.now) (g.L.Link.marks c.args.link.now)
-          (g.L.Link.faults c.args.link.now) told.0) feeder c.put_judged-put.new.self.outbox [])
+          (recorded_side c.read-found.new.seat (g.A.AskingHall.tally c.args.hall.now) (g.A.AskingHall.calls c.args.hall.now)
+          (g.L.ClientLink.traffic c.args.link.now) (g.L.ClientLink.marks c.args.link.now)
+          (g.L.ClientLink.faults c.args.link.now) told.0) feeder c.put_judged-put.new.self.outbox [])
           (sym (c.put_judged-put.ensures.feeder ∙ c.read-found.ensures.feeder))
           (reads_and_puts
-          (recorded_side c.args.seat.now (g.A.Hall.tally c.args.hall.now) (g.A.Hall.calls c.args.hall.now)
-          (g.L.Link.traffic c.args.link.now) (g.L.Link.marks c.args.link.now)
-          (g.L.Link.faults c.args.link.now) before)
-          (recorded_side c.read-found.new.seat (g.A.Hall.tally c.args.hall.now) (g.A.Hall.calls c.args.hall.now)
-          (g.L.Link.traffic c.args.link.now) (g.L.Link.marks c.args.link.now)
-          (g.L.Link.faults c.args.link.now) told.0)
+          (recorded_side c.args.seat.now (g.A.AskingHall.tally c.args.hall.now) (g.A.AskingHall.calls c.args.hall.now)
+          (g.L.ClientLink.traffic c.args.link.now) (g.L.ClientLink.marks c.args.link.now)
+          (g.L.ClientLink.faults c.args.link.now) before)
+          (recorded_side c.read-found.new.seat (g.A.AskingHall.tally c.args.hall.now) (g.A.AskingHall.calls c.args.hall.now)
+          (g.L.ClientLink.traffic c.args.link.now) (g.L.ClientLink.marks c.args.link.now)
+          (g.L.ClientLink.faults c.args.link.now) told.0)
           c.read-found.new.seat told.0 c.args.self.now.feeder c.args.self.now.outbox c.read-found.new.self.frame c.put_judged-put.new.self.outbox
           c.args.check
           read.0 (Judged verdict) c.read-found.ensures.same c.read-found.ensures.seen refl read.1 is spelled
@@ -45,15 +47,15 @@ returns-in-Judged-clause-talk g c since before fits =
       before,
       subst (λ (recording : Option Recording). g.M.Records.fits c.put_judged-put.new.recorder since recording) told.2 told.1,
       reads_for_nothing
-          (recorded_side c.args.seat.now (g.A.Hall.tally c.args.hall.now) (g.A.Hall.calls c.args.hall.now)
-          (g.L.Link.traffic c.args.link.now) (g.L.Link.marks c.args.link.now)
-          (g.L.Link.faults c.args.link.now) before)
-          (recorded_side c.read-found.new.seat (g.A.Hall.tally c.args.hall.now) (g.A.Hall.calls c.args.hall.now)
-          (g.L.Link.traffic c.args.link.now) (g.L.Link.marks c.args.link.now)
-          (g.L.Link.faults c.args.link.now) before)
+          (recorded_side c.args.seat.now (g.A.AskingHall.tally c.args.hall.now) (g.A.AskingHall.calls c.args.hall.now)
+          (g.L.ClientLink.traffic c.args.link.now) (g.L.ClientLink.marks c.args.link.now)
+          (g.L.ClientLink.faults c.args.link.now) before)
+          (recorded_side c.read-found.new.seat (g.A.AskingHall.tally c.args.hall.now) (g.A.AskingHall.calls c.args.hall.now)
+          (g.L.ClientLink.traffic c.args.link.now) (g.L.ClientLink.marks c.args.link.now)
+          (g.L.ClientLink.faults c.args.link.now) before)
           c.read-found.new.seat read.0 c.args.self.now.feeder c.args.self.now.outbox c.args.check c.in-Err.ended c.read-found.ensures.same
           c.read-found.ensures.seen refl
-          read.1 c.in-Err.ensures.ended c.requires,
+          read.1 c.in-Err.ensures.ended c.requires.side,
     )
 
 pub returns-in-Ok-put_reply-clause-talk : goal.returns-in-Ok-put_reply-clause-talk
@@ -65,17 +67,17 @@ returns-in-Ok-put_reply-clause-talk g c since before fits =
       before,
       fits,
       λ start s. subst (λ (feeder : Feeding). Stands start
-          (recorded_side c.read-found.new.seat (g.A.Hall.tally c.args.hall.now) (g.A.Hall.calls c.args.hall.now)
-          (g.L.Link.traffic c.args.link.now) (g.L.Link.marks c.args.link.now)
-          (g.L.Link.faults c.args.link.now) before) feeder c.put_reply.new.self.outbox [])
+          (recorded_side c.read-found.new.seat (g.A.AskingHall.tally c.args.hall.now) (g.A.AskingHall.calls c.args.hall.now)
+          (g.L.ClientLink.traffic c.args.link.now) (g.L.ClientLink.marks c.args.link.now)
+          (g.L.ClientLink.faults c.args.link.now) before) feeder c.put_reply.new.self.outbox [])
           (sym (c.put_reply.ensures.feeder ∙ c.read-found.ensures.feeder))
           (reads_and_puts
-          (recorded_side c.args.seat.now (g.A.Hall.tally c.args.hall.now) (g.A.Hall.calls c.args.hall.now)
-          (g.L.Link.traffic c.args.link.now) (g.L.Link.marks c.args.link.now)
-          (g.L.Link.faults c.args.link.now) before)
-          (recorded_side c.read-found.new.seat (g.A.Hall.tally c.args.hall.now) (g.A.Hall.calls c.args.hall.now)
-          (g.L.Link.traffic c.args.link.now) (g.L.Link.marks c.args.link.now)
-          (g.L.Link.faults c.args.link.now) before)
+          (recorded_side c.args.seat.now (g.A.AskingHall.tally c.args.hall.now) (g.A.AskingHall.calls c.args.hall.now)
+          (g.L.ClientLink.traffic c.args.link.now) (g.L.ClientLink.marks c.args.link.now)
+          (g.L.ClientLink.faults c.args.link.now) before)
+          (recorded_side c.read-found.new.seat (g.A.AskingHall.tally c.args.hall.now) (g.A.AskingHall.calls c.args.hall.now)
+          (g.L.ClientLink.traffic c.args.link.now) (g.L.ClientLink.marks c.args.link.now)
+          (g.L.ClientLink.faults c.args.link.now) before)
           c.read-found.new.seat before c.args.self.now.feeder c.args.self.now.outbox c.read-found.new.self.frame c.put_reply.new.self.outbox
           c.args.check
           read.0 (NotResolved commit kind) c.read-found.ensures.same c.read-found.ensures.seen refl read.1 is spelled
@@ -89,15 +91,15 @@ returns-in-Unresolved-clause-talk g c since before fits =
       before,
       fits,
       reads_for_nothing
-          (recorded_side c.args.seat.now (g.A.Hall.tally c.args.hall.now) (g.A.Hall.calls c.args.hall.now)
-          (g.L.Link.traffic c.args.link.now) (g.L.Link.marks c.args.link.now)
-          (g.L.Link.faults c.args.link.now) before)
-          (recorded_side c.read-found.new.seat (g.A.Hall.tally c.args.hall.now) (g.A.Hall.calls c.args.hall.now)
-          (g.L.Link.traffic c.args.link.now) (g.L.Link.marks c.args.link.now)
-          (g.L.Link.faults c.args.link.now) before)
+          (recorded_side c.args.seat.now (g.A.AskingHall.tally c.args.hall.now) (g.A.AskingHall.calls c.args.hall.now)
+          (g.L.ClientLink.traffic c.args.link.now) (g.L.ClientLink.marks c.args.link.now)
+          (g.L.ClientLink.faults c.args.link.now) before)
+          (recorded_side c.read-found.new.seat (g.A.AskingHall.tally c.args.hall.now) (g.A.AskingHall.calls c.args.hall.now)
+          (g.L.ClientLink.traffic c.args.link.now) (g.L.ClientLink.marks c.args.link.now)
+          (g.L.ClientLink.faults c.args.link.now) before)
           c.read-found.new.seat read.0 c.args.self.now.feeder c.args.self.now.outbox c.args.check c.in-Err-put_reply.ended c.read-found.ensures.same
           c.read-found.ensures.seen refl
-          read.1 c.in-Err-put_reply.ensures.put.0 c.requires,
+          read.1 c.in-Err-put_reply.ensures.put.0 c.requires.side,
     )
 
 pub returns-clause-talk : goal.returns-clause-talk
@@ -106,14 +108,14 @@ returns-clause-talk g c since before fits =
       before,
       fits,
       reads_for_nothing
-          (recorded_side c.args.seat.now (g.A.Hall.tally c.args.hall.now) (g.A.Hall.calls c.args.hall.now)
-          (g.L.Link.traffic c.args.link.now) (g.L.Link.marks c.args.link.now)
-          (g.L.Link.faults c.args.link.now) before)
-          (recorded_side c.read-found.new.seat (g.A.Hall.tally c.args.hall.now) (g.A.Hall.calls c.args.hall.now)
-          (g.L.Link.traffic c.args.link.now) (g.L.Link.marks c.args.link.now)
-          (g.L.Link.faults c.args.link.now) before)
+          (recorded_side c.args.seat.now (g.A.AskingHall.tally c.args.hall.now) (g.A.AskingHall.calls c.args.hall.now)
+          (g.L.ClientLink.traffic c.args.link.now) (g.L.ClientLink.marks c.args.link.now)
+          (g.L.ClientLink.faults c.args.link.now) before)
+          (recorded_side c.read-found.new.seat (g.A.AskingHall.tally c.args.hall.now) (g.A.AskingHall.calls c.args.hall.now)
+          (g.L.ClientLink.traffic c.args.link.now) (g.L.ClientLink.marks c.args.link.now)
+          (g.L.ClientLink.faults c.args.link.now) before)
           c.read-found.new.seat read.0 c.args.self.now.feeder c.args.self.now.outbox c.args.check _ c.read-found.ensures.same c.read-found.ensures.seen refl
-          read.1 refl c.requires,
+          read.1 refl c.requires.side,
     )
 
 pub returns-in-Ok-answered-clause-talk : goal.returns-in-Ok-answered-clause-talk
@@ -126,9 +128,9 @@ returns-in-Ok-answered-clause-talk g c since before fits =
       then.1,
       λ start s. then.2 start
           (reads_on
-          (recorded_side c.args.seat.now (g.A.Hall.tally c.args.hall.now) (g.A.Hall.calls c.args.hall.now)
-          (g.L.Link.traffic c.args.link.now) (g.L.Link.marks c.args.link.now)
-          (g.L.Link.faults c.args.link.now) before)
+          (recorded_side c.args.seat.now (g.A.AskingHall.tally c.args.hall.now) (g.A.AskingHall.calls c.args.hall.now)
+          (g.L.ClientLink.traffic c.args.link.now) (g.L.ClientLink.marks c.args.link.now)
+          (g.L.ClientLink.faults c.args.link.now) before)
           c.read-found.new.seat read.0 c.args.self.now.feeder c.read-found.new.self.feeder c.args.self.now.outbox c.read-found.new.self.outbox c.args.check
           c.read-found.ensures.same c.read-found.ensures.seen read.1 c.read-found.ensures.feeder c.read-found.ensures.outbox start s),
     )
@@ -143,9 +145,50 @@ returns-in-Due-clause-talk g c since before fits =
       then.1,
       λ start s. then.2 start
           (reads_on
-          (recorded_side c.args.seat.now (g.A.Hall.tally c.args.hall.now) (g.A.Hall.calls c.args.hall.now)
-          (g.L.Link.traffic c.args.link.now) (g.L.Link.marks c.args.link.now)
-          (g.L.Link.faults c.args.link.now) before)
+          (recorded_side c.args.seat.now (g.A.AskingHall.tally c.args.hall.now) (g.A.AskingHall.calls c.args.hall.now)
+          (g.L.ClientLink.traffic c.args.link.now) (g.L.ClientLink.marks c.args.link.now)
+          (g.L.ClientLink.faults c.args.link.now) before)
           c.read-found.new.seat read.0 c.args.self.now.feeder c.read-found.new.self.feeder c.args.self.now.outbox c.read-found.new.self.outbox c.args.check
           c.read-found.ensures.same c.read-found.ensures.seen read.1 c.read-found.ensures.feeder c.read-found.ensures.outbox start s),
+    )
+
+-- ---- the replies that wait are right
+
+pub returns-in-Ok-clause-right : goal.returns-in-Ok-clause-right
+returns-in-Ok-clause-right g c =
+    let read = c.read-found.ensures.read in
+    let finds = subst (λ (found : Found). Finds c.args.check.sequence (reading read.0 c.args.check) c.read-found.new.self.frame found)
+    c.in-Judged.is read.2 in
+    let (verdict, is, spelled, at, allowed) = finds in
+    right_by_policies c.read-found.new.seat c.args.check read.0 (Judged verdict) c.args.self.now.outbox c.read-found.new.self.frame
+    c.put_judged-put.new.self.outbox read.1 is spelled
+    (c.in-Ok.ensures.put ∙ ap (λ (list : List ℕ). list ++ c.read-found.new.self.frame) c.read-found.ensures.outbox)
+    (right_later c.args.seat.now c.read-found.new.seat read.0 c.args.self.now.outbox c.read-found.ensures.same
+    c.read-found.ensures.seen read.1 c.requires.right)
+
+pub returns-in-Ok-put_reply-clause-right : goal.returns-in-Ok-put_reply-clause-right
+returns-in-Ok-put_reply-clause-right g c =
+    let read = c.read-found.ensures.read in
+    let finds = subst (λ (found : Found). Finds c.args.check.sequence (reading read.0 c.args.check) c.read-found.new.self.frame found)
+    c.in-Unresolved.is read.2 in
+    let (commit, kind, is, spelled) = finds in
+    right_by_policies c.read-found.new.seat c.args.check read.0 (NotResolved commit kind) c.args.self.now.outbox
+    c.read-found.new.self.frame c.put_reply.new.self.outbox read.1 is spelled
+    (c.in-Ok-put_reply.ensures.put ∙ ap (λ (list : List ℕ). list ++ c.read-found.new.self.frame) c.read-found.ensures.outbox)
+    (right_later c.args.seat.now c.read-found.new.seat read.0 c.args.self.now.outbox c.read-found.ensures.same
+    c.read-found.ensures.seen read.1 c.requires.right)
+
+pub answer_by_agent-answered-requires-clause-right : goal.answer_by_agent-answered-requires-clause-right
+answer_by_agent-answered-requires-clause-right g c =
+    let read = c.read-found.ensures.read in
+    subst (AreRightAt c.read-found.new.seat) (sym c.read-found.ensures.outbox)
+    (right_later c.args.seat.now c.read-found.new.seat read.0 c.args.self.now.outbox c.read-found.ensures.same
+    c.read-found.ensures.seen read.1 c.requires.right)
+
+pub answer_by_agent-answered-requires-clause-due : goal.answer_by_agent-answered-requires-clause-due
+answer_by_agent-answered-requires-clause-due g c =
+    let read = c.read-found.ensures.read in (
+      read.0,
+      read.1,
+      subst (λ (found : Found). Finds c.args.check.sequence (reading read.0 c.args.check) c.read-found.new.self.frame found) c.in-Due.is read.2,
     )

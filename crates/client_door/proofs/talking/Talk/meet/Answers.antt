@@ -3,6 +3,7 @@ use Rattle.wire_reading.specs.Stream.{Feeding}
 use Rattle.door_frames.specs.Hearing.{HearsMore}
 use Rattle.client_door.specs.parts.Talk.{IsClean, Stands, Meets, with_read}
 use Rattle.client_door.proofs.Steps.{hears_whole, hears_rest, meets_piece}
+use Rattle.client_door.proofs.Right.{right_none}
 use Rattle.client_door.proofs.talking.Talk.meet.Goals as goal
 
 pub returns-then-rest-ne0-clause-talk : goal.returns-then-rest-ne0-clause-talk
@@ -56,3 +57,10 @@ returns-in-Err-clause-talk g c side since before fits =
           (subst (λ list. Meets start (with_read side c.args.seat.now before) c.args.piece.now list) (sym c.requires.sent)
           (meets_piece start (with_read side c.args.seat.now before) c.args.self.now.feeder c.args.piece.now clean met)),
     )
+
+pub returns-then-rest-ne0-clause-right : goal.returns-then-rest-ne0-clause-right
+returns-then-rest-ne0-clause-right g c = right_none c.args.seat.now c.args.self.now.outbox c.requires.sent
+
+pub returns-in-Ok-clause-right : goal.returns-in-Ok-clause-right
+returns-in-Ok-clause-right g c =
+    c.answer_piece.ensures.right (right_none c.args.seat.now c.args.self.now.outbox c.requires.sent)
