@@ -1,5 +1,5 @@
 -- What is told of the service, by what the hall told.
-use Rattle.std.proofs.Common.{◌≡◌, ◌∙◌, List, Option, Some, None, Result, Ok, Err, MatchResult, refl, ap}
+use Rattle.std.proofs.Common.{◌≡◌, ◌∙◌, List, Option, Some, Result, Ok, Err, MatchResult}
 use Rattle.std.specs.Prelude.{IfOk}
 use Rattle.agent_table.specs.Table.{KindsRise}
 use Rattle.desk_state.specs.declared.commands.Command.{Command}
@@ -18,14 +18,6 @@ module _ {V : Type 0} (items : V → List Message) where
       → MatchResult result (λ replies. IsService (items replies)) (λ ended. ended ≡ Memory)
   is_service view (Ok replies) rise is = (view, rise, is)
   is_service view (Err ended) rise is = is
-
-  pub tells_service : (told : Option ServiceTold) (view : ServiceTold) (result : Result V Ended)
-      → ((there : ServiceTold) → told ≡ Some there → view ≡ there)
-      → MatchResult result (λ replies. items replies ≡ service_replies view) (λ ended. ended ≡ Memory)
-      → IfOk result (λ replies. TellsService ReadService told (items replies))
-  tells_service None view (Ok replies) same is = tt
-  tells_service (Some there) view (Ok replies) same is = is ∙ ap service_replies (same there refl)
-  tells_service told view (Err ended) same is = tt
 
   no_service : (message : Message) (told : Option ServiceTold) (replies : List Message) (command : Command)
       → command_of message ≡ Some command → TellsService message told replies

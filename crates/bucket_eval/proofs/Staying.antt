@@ -1,8 +1,8 @@
 -- What stays of the sheets where buckets stay.
 use Rattle.std.proofs.Common.{◌≡◌, ℕ, ◌+◌, ◌<◌, Bool, true, false, not, zero, suc, List, [], ◌∷◌, length, slice_get, Option, None, Some}
-use Rattle.std.proofs.Common.{refl, sym, ap, ◌∙◌, arith, inl, inr}
+use Rattle.std.proofs.Common.{refl, sym, ◌∙◌, arith}
 use Rattle.std.specs.Cmp.{first_so, second_so}
-use Rattle.std.proofs.lemmas.Bool.{cases_lt, eqb-true}
+use Rattle.std.proofs.lemmas.Bool.{eqb-true}
 use Rattle.std.proofs.lemmas.Option.{same_Some, slice_get_within}
 use Rattle.cynara_keys.specs.Key.{Key}
 use Rattle.cynara_keys.specs.PolicyResult.{Ruling, same_result}
@@ -49,33 +49,12 @@ alike-all (x ∷ xs) (y ∷ ys) count alike =
     let rest : xs ≡ ys = alike-all xs ys (omega (arith, count)) (λ k less. alike (suc k) (omega (arith, less))) in
     λ i. head i ∷ rest i
 
-pub alike-more : {X : Type 0} (xs ys : List X) (at : ℕ) (x y : X) → AlikeTo xs ys at → slice_get xs at ≡ Some x
-    → slice_get ys at ≡ Some y → x ≡ y → AlikeTo xs ys (at + 1)
-alike-more xs ys at x y alike one other same = λ k less. elim (cases_lt k at) [
-  | inl before ↦ alike k before
-  | inr from ↦
-      (let here : k ≡ at = omega (arith, from, less) in
-      ap (slice_get xs) here ∙ one ∙ ap Some same ∙ sym other ∙ ap (slice_get ys) (sym here))
-]
-
 -- ---- buckets that are named alike
 
 abbrev pub NamedTo : List Bucket → List Bucket → ℕ → Type 0
 NamedTo before buckets count =
     (k : ℕ) (old bucket : Bucket) → k < count → slice_get before k ≡ Some old → slice_get buckets k ≡ Some bucket
     → old.name ≡ bucket.name
-
-pub named-more : (before buckets : List Bucket) (at : ℕ) (old bucket : Bucket) → NamedTo before buckets at
-    → slice_get before at ≡ Some old → slice_get buckets at ≡ Some bucket → old.name ≡ bucket.name
-    → NamedTo before buckets (at + 1)
-named-more before buckets at old bucket named one other same = λ k was is less was_there is_there. elim (cases_lt k at) [
-  | inl lower ↦ named k was is lower was_there is_there
-  | inr from ↦
-      (let here : at ≡ k = omega (arith, from, less) in
-      let first : old ≡ was = same_Some _ _ (sym one ∙ ap (slice_get before) here ∙ was_there) in
-      let second : bucket ≡ is = same_Some _ _ (sym other ∙ ap (slice_get buckets) here ∙ is_there) in
-      ap (λ (b : Bucket). b.name) (sym first) ∙ same ∙ ap (λ (b : Bucket). b.name) second)
-]
 
 pub named-all : (before buckets : List Bucket) → length before ≡ length buckets → NamedTo before buckets (length before)
     → AreNamedAlike before buckets

@@ -1,6 +1,6 @@
 -- How numbers of texts are found, and how tables are made.
 use Rattle.std.proofs.Common.{◌≡◌, ℕ, ◌+◌, ◌<◌, ◌≤◌, ◌==◌, ◌++◌, Bool, true, false, not, cond, zero, suc, List, [], ◌∷◌, length, map}
-use Rattle.std.proofs.Common.{nat_lt, slice_get, option_and_then, Option, None, Some, IfSome, is_some, refl, sym, ap, ◌∙◌, subst, arith, inl, inr}
+use Rattle.std.proofs.Common.{nat_lt, slice_get, Option, None, Some, IfSome, is_some, refl, sym, ap, ◌∙◌, subst, arith, inl, inr}
 use Rattle.std.specs.List.{position, position_or_len}
 use Rattle.std.specs.Option.{option_map}
 use Rattle.std.proofs.Math.ListN.{set}
@@ -8,18 +8,16 @@ use Rattle.std.proofs.lemmas.Bool.{cases_eq, cases_lt, eqb-true, eq-eqb, false�
 use Rattle.std.proofs.lemmas.List.{length-map}
 use Rattle.std.proofs.lemmas.Option.{same_Some, slice_get-map, slice_get_within}
 use Rattle.cynara_keys.specs.PolicyResult.{Ruling}
-use Rattle.cynara_keys.specs.Text.{same_text}
 use Rattle.cynara_keys.specs.declared.keys.Policy.{Policy}
 use Rattle.bucket_store.specs.Bucket.{Bucket}
 use Rattle.bucket_store.specs.Database.{Database, Heading, database_of, heading_of}
 use Rattle.bucket_store.specs.WellFormed.{IsKept}
 use Rattle.bucket_eval.specs.Evaluation.{policies_of}
 use Rattle.bucket_eval.specs.declared.sheets.Filed.{Filed}
-use Rattle.bucket_eval.specs.declared.sheets.Marked.{Marked}
 use Rattle.bucket_eval.specs.declared.sheets.Sheet.{Sheet}
-use Rattle.bucket_eval.specs.parts.Numbers.{HasMark, IsMarked, IsTable, IsTableTo, KeepsNumbers, if_small, mark_of, number_of}
+use Rattle.bucket_eval.specs.parts.Numbers.{HasMark, IsMarked, IsTable, IsTableTo, KeepsNumbers, mark_of}
 use Rattle.bucket_eval.specs.parts.Shapes.{shape_of}
-use Rattle.bucket_eval.specs.parts.Sheets.{AreFiled, AreNext, AreSheets, AreSheetsOf, EachIsSheet, IsFiled, IsGap, IsNextOf, IsShaped, IsShapedTo, IsSheetAt, IsSheetOf, PointsTo, TargetIs, TargetsAt, filed_in, first_or, is_behind, places_by}
+use Rattle.bucket_eval.specs.parts.Sheets.{AreFiled, AreNext, AreSheets, AreSheetsOf, EachIsSheet, IsFiled, IsGap, IsNextOf, IsShaped, IsShapedTo, IsSheetAt, IsSheetOf, PointsTo, TargetIs, TargetsAt, filed_in, places_by}
 use Rattle.bucket_eval.proofs.Buckets.{policies_of-at}
 use Rattle.bucket_eval.proofs.Known.{get-set-other}
 use Rattle.bucket_eval.proofs.Marks.{mark-kept}
@@ -37,18 +35,6 @@ position-map f p xs =
     let place : position_or_len p (map f xs) ≡ position_or_len (λ x. p (f x)) xs = position_or_len-map f p xs in
     let count : length (map f xs) ≡ length xs = length-map xs f in
     λ i. cond (nat_lt (place i) (count i)) (Some (place i)) None
-
-module _ {X : Type 0} (f : X → List ℕ) (xs : List X) (text : List ℕ) where
-  number-by : (found : Option ℕ) → found ≡ position (λ x. same_text text (f x)) xs
-      → number_of (map f xs) text ≡ option_and_then if_small found
-  number-by found is = ap (option_and_then if_small) (position-map f (same_text text) xs ∙ sym is)
-
-  pub number-found : (place : ℕ) → Some place ≡ position (λ x. same_text text (f x)) xs
-      → if_small place ≡ number_of (map f xs) text
-  number-found place is = sym (number-by (Some place) is)
-
-  pub number-absent : None ≡ position (λ x. same_text text (f x)) xs → None ≡ number_of (map f xs) text
-  number-absent is = sym (number-by None is)
 
 -- ---- tables
 
@@ -205,10 +191,6 @@ module _ (old new : List (List ℕ)) (kept : KeepsNumbers old new) where
     fallback = is.fallback;
   }
 
-  pub sheet-at-kept : (buckets : List Bucket) (at : ℕ) (sheet : Sheet) → IsSheetAt old buckets at sheet
-      → IsSheetAt new buckets at sheet
-  sheet-at-kept buckets at sheet is = λ bucket there. sheet-kept buckets bucket sheet (is bucket there)
-
   pub sheets-kept : (buckets : List Bucket) (sheets : List Sheet) → EachIsSheet old buckets sheets
       → EachIsSheet new buckets sheets
   sheets-kept buckets sheets each = λ at bucket sheet there sheet_there.
@@ -329,47 +311,6 @@ module _ (old new : ℕ → Option Filed) (mark : ℕ) (one : Filed)
       → IsFiled buckets policies one → AreFiled buckets policies new
   filed-put buckets policies are is =
       λ other own found. put-filed buckets policies are is other own (other == mark) (sym (puts other) ∙ found)
-
--- one more while there is no first, or in the place of the first
-pub first-put : (old : Option Marked) (found : Option Filed) (mark : ℕ) (filed : Filed) (other : ℕ)
-    → is_behind old mark ≡ false
-    → first_or (Some (record { mark = mark; filed = filed })) found other
-    ≡ cond (other == mark) (Some filed) (first_or old found other)
-first-put None found mark filed other apart = refl
-first-put (Some first) found mark filed other apart = by-mark (other == mark) refl
-  where
-    same : (b : Bool) → (mark == first.mark) ≡ b → not b ≡ false → mark ≡ first.mark
-    same true is h = eqb-true mark first.mark is
-    same false is h = cc
-
-    by-mark : (b : Bool) → (other == mark) ≡ b
-        → cond b (Some filed) found ≡ cond b (Some filed) (cond (other == first.mark) (Some first.filed) found)
-    by-mark true is = refl
-    by-mark false is =
-        let none : (other == first.mark) ≡ false =
-        ap (λ m. other == m) (sym (same (mark == first.mark) refl apart)) ∙ is in
-        ap (λ b. cond b (Some first.filed) found) (sym none)
-
--- one more behind the first
-pub behind-put : (first : Option Marked) (found : Option Filed) (mark : ℕ) (filed : Filed) (other : ℕ)
-    → is_behind first mark ≡ true
-    → first_or first (cond (other == mark) (Some filed) found) other
-    ≡ cond (other == mark) (Some filed) (first_or first found other)
-behind-put None found mark filed other apart = cc
-behind-put (Some first) found mark filed other apart = by-first (other == first.mark) refl
-  where
-    differs : (b : Bool) → (mark == first.mark) ≡ b → not b ≡ true → mark ≡ first.mark → ⊥
-    differs true is h same = cc
-    differs false is h same = false≢true (sym is ∙ eq-eqb mark first.mark same)
-
-    by-first : (b : Bool) → (other == first.mark) ≡ b
-        → cond b (Some first.filed) (cond (other == mark) (Some filed) found)
-        ≡ cond (other == mark) (Some filed) (cond b (Some first.filed) found)
-    by-first true is =
-        let none : (other == mark) ≡ false =
-        ne_eqb other mark (λ same. differs (mark == first.mark) refl apart (sym same ∙ eqb-true other first.mark is)) in
-        ap (λ b. cond b (Some filed) (Some first.filed)) (sym none)
-    by-first false is = refl
 
 pub table-none : (names : List (List ℕ)) (policies : List Policy) (filed : ℕ → Option Filed)
     → ((mark : ℕ) → filed mark ≡ None) → IsTableTo names policies (places_by filed) 0

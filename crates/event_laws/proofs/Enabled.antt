@@ -1,5 +1,5 @@
 -- How an event is seen to be enabled, and a state to stand for the world behind it.
-use Rattle.std.proofs.Common.{◌≡◌, Bool, true, Option, Some, None, refl, ap, ◌∙◌}
+use Rattle.std.proofs.Common.{◌≡◌, Bool, true, Option, Some, None, ap, ◌∙◌}
 use Rattle.std.specs.Prelude.{is_none}
 use Rattle.desk_world.specs.World.{World}
 use Rattle.desk_world.specs.Clients.{when, with_some}
@@ -28,7 +28,3 @@ happens event world next Then kept enabled then =
 
 pub no_some : {X : Type 0} (o : Option X) → o ≡ None → is_none o ≡ true
 no_some o is = ap is_none is
-
-pub is_no_some : {X : Type 0} (o : Option X) → is_none o ≡ true → o ≡ None
-is_no_some None e = refl
-is_no_some (Some x) e = absurd (cc e)

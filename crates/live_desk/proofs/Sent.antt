@@ -4,7 +4,7 @@ use denote.RattleType.{RattleType}
 use denote.Builtin.{u64}
 use mir.Syntax.{Dict}
 use denote.Param.Send.{IsSend, IsSync, sendable}
-use denote.Param.SendFields.{as_row_send, as_row_sync}
+use denote.Param.SendFields.{as_row_sync}
 use Rattle.std.proofs.Crossing.{crosses}
 use Rattle.std.proofs.MapsCrossing as maps
 use Rattle.std.specs.contracts.alloc.Global as Global
@@ -27,11 +27,10 @@ use Rattle.atomic_table.proofs.shared.Shared.TheSendSync as board
 use Rattle.atomic_table.proofs.send_lease.SendLease.TheSendSync as lease
 use Rattle.state_list.specs.declared.rules.Naming.{Ghosts}
 use Rattle.state_list.specs.contracts.rules.Events as Events
-use Rattle.state_list.proofs.Sent.{front_send, front_sync, book_send}
+use Rattle.state_list.proofs.Sent.{front_send, front_sync}
 use Rattle.live_roll.proofs.Sent.{log_send}
 use Rattle.left_right.specs.contracts.part.Part as Part
 use Rattle.left_right.proofs.part.Part.TheSendSync as part
-use Rattle.left_right.proofs.part.Deed.TheSendSync as deed
 use Rattle.left_right.specs.contracts.reader.Factory as Factory
 use Rattle.left_right.specs.contracts.reader.Reader as Reader
 use Rattle.live_desk.specs.contracts.copies.DeskCopy as DeskCopy
@@ -39,8 +38,6 @@ use Rattle.live_desk.specs.contracts.copies.Published as Published
 use Rattle.live_desk.specs.contracts.copies.Shown as Shown
 use Rattle.live_desk.specs.contracts.running.Running as Running
 use Rattle.live_desk.specs.contracts.running.RunningProtocolPublishedU64.TheImpl as rule
-use Rattle.live_desk.specs.contracts.copies.PublishedAbsorbShown.TheImpl as absorb
-use Rattle.live_desk.specs.contracts.publishers.Publisher as Publisher
 use Rattle.live_desk.specs.contracts.seats.Seat as Seat
 
 -- what an index is made of
@@ -131,23 +128,14 @@ copy_sync = search (sendable, crosses, index_sync) depth 40
 
 -- Those of a list go where its name may.
 module _ (J : RattleType) (naming : Ghosts J.Denot) (dict : Dict) where
-  shown_send : IsSend J → IsSend (Shown.the_field J naming).row
-  shown_send send = search (sendable, crosses, copy_send, copy_sync, front_send) depth 40
-
   shown_sync : IsSync J → IsSync (Shown.the_field J naming).row
   shown_sync sync = search (sendable, crosses, copy_send, copy_sync, front_sync) depth 40
-
-  published_send : IsSend J → IsSend (Published.the_field J naming).row
-  published_send send = search (sendable, crosses, shown_send) depth 40
 
   published_sync : IsSync J → IsSync (Published.the_field J naming).row
   published_sync sync = search (sendable, crosses, shown_sync) depth 40
 
   published_row_sync : IsSync J → IsSync (Published.the_row J naming)
   published_row_sync sync = as_row_sync (Published.the_field J naming) (published_sync sync)
-
-  published_row_send : IsSend J → IsSend (Published.the_row J naming)
-  published_row_send send = as_row_send (Published.the_field J naming) (published_send send)
 
   -- what readers and the writer have of them
   part_send : IsSync J → IsSend (Part.the_row (Published.the_row J naming))
@@ -164,13 +152,3 @@ module _ (J : RattleType) (naming : Ghosts J.Denot) (dict : Dict) where
   -- a seat has a front of the roll's log too
   pub seat_send : (events : Ghosts (Events.the_row J).Denot) → IsSend J → IsSync J → IsSend (Seat.the_field J naming events).row
   seat_send events send sync = search (sendable, crosses, reader_send, front_send, log_send) depth 40
-
-  pub seat_row_send : (events : Ghosts (Events.the_row J).Denot) → IsSend J → IsSync J → IsSend (Seat.the_row J naming events)
-  seat_row_send events send sync = as_row_send (Seat.the_field J naming events) (seat_send events send sync)
-
-  pub publisher_send : IsSend J → IsSync J → IsSend (Publisher.the_field J naming (absorb.ghosts J naming dict) (rule.ghosts J naming dict)).row
-  publisher_send send sync =
-      search (sendable, crosses, factory_send, part_send, place.the_send, deed.the_send, published_row_send, shown_send, copy_send, copy_sync, front_send, book_send) depth 40
-
-  pub publisher_row_send : IsSend J → IsSync J → IsSend (Publisher.the_row J naming (absorb.ghosts J naming dict) (rule.ghosts J naming dict))
-  publisher_row_send send sync = as_row_send (Publisher.the_field J naming (absorb.ghosts J naming dict) (rule.ghosts J naming dict)) (publisher_send send sync)

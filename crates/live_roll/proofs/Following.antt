@@ -117,27 +117,6 @@ none_below opened (Entered other ∷ events) above (suc i) (suc j) to at less hu
 none_below opened (Hung other ∷ events) above (suc i) (suc j) to at less hung entered =
     none_below (max opened other) events above i j to at (omega arith) hung entered
 
-pub none_below_front : (events all : List Event) → IsPrefix events all → NoneBelow all → NoneBelow events
-none_below_front events all begins none i j to at less hung entered =
-    none i j to at less (prefix_get events all i (Hung to) begins hung) (prefix_get events all j (Entered at) begins entered)
-
-above_last : (before : List Event) (at i to : ℕ) → NoneBelow (before ++ Entered at ∷ [])
-    → slice_get (before ++ Entered at ∷ []) i ≡ Some (Hung to) → to ≤ at
-above_last [] at zero to none hung = absurd (cc hung)
-above_last [] at (suc i) to none hung = absurd (cc hung)
-above_last (event ∷ before) at zero to none hung =
-    none zero (suc (length before)) to at (omega (arith)) hung (last_get before (Entered at))
-above_last (event ∷ before) at (suc i) to none hung =
-    above_last before at i to (λ i j to at less hung entered. none (suc i) (suc j) to at (omega (arith, less)) hung entered) hung
-
--- who entered last in a front of the log did so below no hang-up in that front
-pub none_above : (before events all : List Event) (at : ℕ) → events ≡ before ++ Entered at ∷ [] → IsPrefix events all
-    → NoneBelow all → NoneAbove events at
-none_above before events all at is begins none =
-    let here : NoneBelow (before ++ Entered at ∷ []) =
-    subst (λ (es : List Event). NoneBelow es) is (none_below_front events all begins none) in
-    subst (λ (es : List Event). NoneAbove es at) (sym is) (λ i to hung. above_last before at i to here hung)
-
 -- ---- what was hung up
 
 pub hung_last : (before events : List Event) (to : ℕ) → events ≡ before ++ Hung to ∷ [] → HasHung events to
@@ -165,10 +144,3 @@ hung_within low at [] le none = le
 hung_within low at (Entered other ∷ events) le none = hung_within low at events le (λ i to hung. none (suc i) to hung)
 hung_within low at (Hung to ∷ events) le none =
     let first = none zero to refl in hung_within (max low to) at events (omega (arith, le, first)) (λ i to hung. none (suc i) to hung)
-
--- who entered behind a front of the log did so below no hang-up in it
-pub entered_behind : (events all : List Event) (j at : ℕ) → IsPrefix events all → NoneBelow all → length events ≤ j
-    → slice_get all j ≡ Some (Entered at) → NoneAbove events at
-entered_behind events all j at begins none behind entered i to hung =
-    let there = get_below events i (Hung to) hung in
-    none i j to at (omega (arith, there, behind)) (prefix_get events all i (Hung to) begins hung) entered

@@ -10,7 +10,7 @@ use Rattle.live_roll.specs.declared.entries.Entry.{Entry}
 use Rattle.live_roll.specs.declared.events.Event.{Event}
 use Rattle.live_roll.specs.declared.events.Event.TheVariants.{Entered, Hung}
 use Rattle.live_roll.specs.Events.{hung_to, EnterAbove}
-use Rattle.live_roll.specs.Places.{IsHungUp, IsHungUpIf, IsClosed, IsCurrent, IsLeft, AreHungUp, AreHungBelow, is_below, IsVacant}
+use Rattle.live_roll.specs.Places.{IsHungUp, IsHungUpIf, IsClosed, IsCurrent, AreHungUp, AreHungBelow, is_below, IsVacant}
 use Rattle.live_roll.specs.Roll.{RollState, IsRoll}
 use Rattle.live_roll.proofs.Following.{noted_entry, above_entry, noted_hang, above_hang}
 
@@ -38,11 +38,6 @@ module _ {H : Type 0} where
   closed_hung used None now is = subst (IsClosed used) (sym is) tt
   closed_hung used (Some entry) None is = absurd is
   closed_hung used (Some entry) (Some now) is = is.1
-
-  pub closed_left : (used : H → Bool) (place now : Option (Entry H)) → IsLeft used place now → IsClosed used now
-  closed_left used None now is = subst (IsClosed used) (sym is) tt
-  closed_left used (Some entry) None is = absurd is
-  closed_left used (Some entry) (Some now) is = is.1
 
   pub current_closed : (used : H → Bool) (note : ℕ) (place : Option (Entry H)) → IsClosed used place → IsCurrent used note place
   current_closed used note None is = tt

@@ -44,10 +44,6 @@ abbrev pub disk_seen : {D : Type 0} → (D → Option DiskState) → (D → ℕ)
 disk_seen state moment left_since faults disk =
     record { state = state disk; moment = moment disk; left_since = left_since disk; faults = faults disk }
 
--- a run that is given no net sees one that never fails
-abbrev pub no_net : NetSeen
-no_net = record { faults = 0 }
-
 -- the one place where an outside is made
 abbrev pub seen : SourceSeen → SinkSeen → DiskSeen → NetSeen → Outside
 seen source sink disk net = record { source = source; sink = sink; disk = disk; net = net }

@@ -13,6 +13,7 @@ use std::snapshot::Snapshot;
 const MOST: u64 = 1 << 62;
 
 impl<S> Opened<S> {
+    /// A list of its own, with nothing in it, to which no name is given yet.
     pub fn new() -> Opened<S> {
         let (seen, mut first, _second) = Seen::open(Start::alone(), 0, 0);
         Opened {
