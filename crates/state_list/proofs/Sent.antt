@@ -1,7 +1,7 @@
 -- What the list is kept by, and a front of it, may go to another thread where their name may.
 use denote.RattleType.{RattleType}
 use denote.Param.Send.{IsSend, IsSync, sendable}
-use denote.Param.SendFields.{as_row_send, as_row_sync}
+use denote.Param.SendFields.{as_row_send}
 use Rattle.std.proofs.Crossing.{crosses}
 use Rattle.logbook.proofs.tokens.Seen.TheSendSync as seen
 use Rattle.logbook.proofs.word.Word.TheSendSync as word
@@ -24,6 +24,3 @@ module _ (S J : RattleType) (naming : Ghosts J.Denot) where
 module _ (J : RattleType) where
   pub events_send : IsSend J → IsSend (Events.the_row J)
   events_send send = as_row_send (Events.the_field J) (search (sendable, crosses) depth 40)
-
-  pub events_sync : IsSync J → IsSync (Events.the_row J)
-  events_sync sync = as_row_sync (Events.the_field J) (search (sendable, crosses) depth 40)
