@@ -26,9 +26,10 @@ pub record Undialled (said : Said) (ending : Ending) (before after : DialSeen) :
   pub fails : DialFails ending before.faults after.faults
   pub given : after.given ≡ before.given
 
--- A link was dialled and served, and then given back, also where it did not fail. So a connection that the service ended
--- counts for the dialler as one whose input had ended.
-pub record Dialled (kind : Kind) (allowed : Bool) (said : Said) (ending : Ending) (before after : DialSeen) : Type 0 where
+-- A link was dialled and served, and then given back, also where it did not fail. So a connection that the service
+-- ended counts for the dialler as one whose input had ended.
+pub record Dialled (kind : Kind) (allowed : Bool) (said : Said) (ending : Ending)
+    (before after : DialSeen) : Type 0 where
   pub link : LinkSeen
   pub link_after : LinkSeen
   pub unmarked : link.marks ≡ fresh_marks
@@ -42,8 +43,8 @@ abbrev pub RunsAgent : Kind → Bool → Said → Ending → DialSeen → DialSe
 RunsAgent kind allowed said ending before after =
     Undialled said ending before after ⊎ Dialled kind allowed said ending before after
 
--- The count of the dialler behind a run: one call of the outside failed where the run ended so. Where its peer ended the
--- connection one may have been counted when the link was given back.
+-- The count of the dialler behind a run: one call of the outside failed where the run ended so. Where its peer ended
+-- the connection one may have been counted when the link was given back.
 abbrev pub DialCounts : Ending → ℕ → ℕ → Type 0
 DialCounts Net before after = after ≡ next_count before
 DialCounts Memory before after = after ≡ before
@@ -56,9 +57,9 @@ DialCounts ending before after = (after ≡ before) ⊎ (after ≡ next_count be
 abbrev pub AreLines : List ℕ → Type 0
 AreLines answers = (messages : List Framed) × GoesOn messages × (answers ≡ lines messages)
 
--- How a run then ends that wrote these answers, and what it did to the dialler's count. That rises where a call of the net
--- failed, and also where the service ended the connection, since the link is given back. So where it stays, the kind is taken,
--- or what the service sent is a bad reply, or memory ran out.
+-- How a run then ends that wrote these answers, and what it did to the dialler's count. That rises where a call of the
+-- net failed, and also where the service ended the connection, since the link is given back. So where it stays, the
+-- kind is taken, or what the service sent is a bad reply, or memory ran out.
 abbrev pub CompletesAgent : Ending → List ℕ → ℕ → ℕ → Type 0
 -- the service ended the connection between two messages, or it said that the kind is taken
 CompletesAgent Done answers net net_after =

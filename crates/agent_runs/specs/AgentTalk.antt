@@ -5,7 +5,8 @@ use Rattle.cynara_keys.specs.declared.results.Kind.{Kind}
 use Rattle.line_answers.specs.Answers.{question_text, taken_text}
 use Rattle.wire_fields.specs.declared.messages.Framed.{Framed}
 use Rattle.wire_fields.specs.declared.messages.Message.{Message}
-use Rattle.wire_fields.specs.declared.messages.Message.TheVariants.{Register, AgentAnswer, Registered, KindTaken, AgentQuestion, UnknownNumber}
+use Rattle.wire_fields.specs.declared.messages.Message.TheVariants.{Register, AgentAnswer, Registered, KindTaken}
+use Rattle.wire_fields.specs.declared.messages.Message.TheVariants.{AgentQuestion, UnknownNumber}
 use Rattle.wire_fields.specs.declared.messages.Message.TheVariants.{AgentWithdrawn}
 use Rattle.wire_fields.specs.declared.operations.Heard.TheVariants.{AgentReplies}
 use Rattle.wire_fields.specs.declared.refusals.WireRefusal.{WireRefusal}
@@ -63,8 +64,8 @@ abbrev pub IsQuestion : Message → Type 0
 IsQuestion (AgentQuestion number question result) = Unit {0}
 IsQuestion message = ⊥
 
--- It may come behind the registration. That a number is unknown, or that a question was withdrawn, is read, and nothing follows:
--- a question is answered as soon as it is heard, so the answer was on its way.
+-- It may come behind the registration. That a number is unknown, or that a question was withdrawn, is read, and nothing
+-- follows: a question is answered as soon as it is heard, so the answer was on its way.
 abbrev pub IsTurn : Message → Type 0
 IsTurn (AgentQuestion number question result) = Unit {0}
 IsTurn (UnknownNumber number) = Unit {0}
@@ -89,13 +90,15 @@ AreInPlace messages = GoesOn messages ⊎ IsTaken messages
 
 -- ---- how it ends
 
--- Behind these messages the bytes are a bad reply: a frame that is wrong, and no byte past it; the end of the input within a
--- frame; or a message out of its place.
+-- Behind these messages the bytes are a bad reply: a frame that is wrong, and no byte past it; the end of the input
+-- within a frame; or a message out of its place.
 pub data IsBadReply (messages : List Framed) (behind : List ℕ) (found : Bool) : Type 0 where
-  wrong : (refusal : WireRefusal) → first_of AgentReplies behind ≡ Wrong refusal → length behind ≤ size_of behind → found ≡ false
+  wrong : (refusal : WireRefusal) → first_of AgentReplies behind ≡ Wrong refusal → length behind ≤ size_of behind
+      → found ≡ false
       → IsBadReply messages behind found
   cut : 0 < length behind → IsOpen AgentReplies behind → found ≡ true → IsBadReply messages behind found
-  misplaced : (framed : Framed) → Hears AgentReplies behind (framed ∷ []) [] → (AreInPlace (messages ++ framed ∷ []) → ⊥)
+  misplaced : (framed : Framed) → Hears AgentReplies behind (framed ∷ []) []
+      → (AreInPlace (messages ++ framed ∷ []) → ⊥)
       → found ≡ false → IsBadReply messages behind found
 
 -- no message, or a question that was not answered
@@ -104,8 +107,8 @@ IsUnanswered [] = Unit {0}
 IsUnanswered (framed ∷ []) = IsQuestion framed.message
 IsUnanswered (framed ∷ other ∷ others) = ⊥
 
--- How an agent ends that was done with these messages, heard this one behind them, and received these bytes behind that;
--- and whether it found the end of the input.
+-- How an agent ends that was done with these messages, heard this one behind them, and received these bytes behind
+-- that; and whether it found the end of the input.
 abbrev pub EndsBehind : Ending → Said → List Framed → List Framed → List ℕ → Bool → Type 0
 -- the input ended between frames, or the kind is taken
 EndsBehind Done said messages last behind found =
@@ -121,9 +124,10 @@ EndsBehind Net said messages last behind found =
 EndsBehind Memory said messages last behind found = GoesOn messages × IsUnanswered last × (found ≡ false)
 EndsBehind ending said messages last behind found = ⊥
 
--- The registration was sent, and then each message was heard, its line was due, and its answer was sent. For the last one,
--- where it was not done with, the line was due and no answer was sent.
-pub record Talks (kind : Kind) (allowed : Bool) (ending : Ending) (said : Said) (sent received : List ℕ) (found : Bool) : Type 0 where
+-- The registration was sent, and then each message was heard, its line was due, and its answer was sent. For the last
+-- one, where it was not done with, the line was due and no answer was sent.
+pub record Talks (kind : Kind) (allowed : Bool) (ending : Ending) (said : Said) (sent received : List ℕ)
+    (found : Bool) : Type 0 where
   pub messages : List Framed
   pub last : List Framed
   pub behind : List ℕ
@@ -145,7 +149,8 @@ pub record IsSilent (ending : Ending) (said : Said) (sent received : List ℕ) (
   pub nothing : (sent ≡ []) × (received ≡ []) × (found ≡ false)
 
 -- What an agent of this kind that gives this answer says, and how it ends, over a link before and after.
-pub record Serves (kind : Kind) (allowed : Bool) (said : Said) (ending : Ending) (before after : LinkSeen) : Type 0 where
+pub record Serves (kind : Kind) (allowed : Bool) (said : Said) (ending : Ending)
+    (before after : LinkSeen) : Type 0 where
   pub sent : List ℕ
   pub received : List ℕ
   pub found : Bool

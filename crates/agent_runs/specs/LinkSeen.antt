@@ -21,9 +21,11 @@ link_seen tells link = record { traffic = tells.traffic link; marks = tells.mark
 abbrev pub with_end : Bool → LinkMarks → LinkMarks
 with_end found marks = record marks { has_ended = marks.has_ended || found }
 
--- These bytes were sent and these received over a link that tells its traffic, and the end of its input was found, or not.
+-- These bytes were sent and these received over a link that tells its traffic, and the end of its input was found, or
+-- not.
 pub record Carries (sent received : List ℕ) (found : Bool) (before after : LinkSeen) : Type 0 where
-  pub traffic : IfTold before.traffic (λ traffic. after.traffic ≡ Some (with_received received (with_sent sent traffic)))
+  pub traffic : IfTold before.traffic (λ traffic.
+      after.traffic ≡ Some (with_received received (with_sent sent traffic)))
   pub marks : after.marks ≡ with_end found before.marks
 
 -- a dialler: the links given back to it, where it tells them, and its count
@@ -33,4 +35,5 @@ pub record DialSeen : Type 0 where
 
 -- of a dialler, by what its type tells, and that of its links
 abbrev pub dial_seen : {N L H : Type 0} → DialTells N L H → LinkTells L H → N → DialSeen
-dial_seen tells link dial = record { given = option_map (map (link_seen link)) (tells.given_back dial); faults = tells.faults dial }
+dial_seen tells link dial =
+    record { given = option_map (map (link_seen link)) (tells.given_back dial); faults = tells.faults dial }

@@ -14,10 +14,10 @@ use run_endings::Ending;
 use std::alloc::Global;
 use std::sync::Wait;
 
-/// Registers at the service as the agent of this kind, and gives each question the same answer, until the link ends or the
-/// kind is found taken. The sink takes the line of a question before its answer is sent. The first message has to say that
-/// the agent is registered or that the kind is taken, and neither may come later; that a number is unknown, or that a question
-/// was withdrawn, is read, and nothing follows. It may wait, and its promise holds where it returns.
+/// Registers at the service as the agent of this kind, and gives each question the same answer, until the link ends or
+/// the kind is found taken. The sink takes the line of a question before its answer is sent. The first message has to
+/// say that the agent is registered or that the kind is taken, and neither may come later; that a number is unknown, or
+/// that a question was withdrawn, is read, and nothing follows. It may wait, and its promise holds where it returns.
 pub fn agent_client<R: Wait, L: Link, K: Sink>(
     rt: &R,
     alloc: Global,

@@ -10,8 +10,8 @@ use run_endings::{Ending, note_text};
 use std::alloc::Global;
 use wire_messages::WireRefusal;
 
-/// Where the machine has no message for the bytes that came: they are no frame, or the message has no place there, or no
-/// memory was found. Of bytes that came to an agent it tells no other fault.
+/// Where the machine has no message for the bytes that came: they are no frame, or the message has no place there, or
+/// no memory was found. Of bytes that came to an agent it tells no other fault.
 pub(crate) fn end_of<K: Sink>(alloc: Global, fault: Fault, sink: &mut K) -> Ending
     ensures ending { result ≡ ending_of fault }
     ensures unwritten { IsUnwritten (sink_seen K.taken K.faults sink.old) (sink_seen K.taken K.faults sink.new) }

@@ -14,8 +14,9 @@ use link_ports::Link;
 use run_endings::Ending;
 use wire_messages::Message;
 
-/// Follows a message that the machine gave: its line is written, if it has one, and then a question has this answer sent.
-/// Nothing follows where a number is unknown or a question was withdrawn. Where the kind is taken the run is done.
+/// Follows a message that the machine gave: its line is written, if it has one, and then a question has this answer
+/// sent. Nothing follows where a number is unknown or a question was withdrawn. Where the kind is taken the run is
+/// done.
 pub(crate) fn follow<L: Link, K: Sink>(
     machine: &mut AgentMachine,
     room: &mut Bytes,

@@ -3,7 +3,8 @@ use Rattle.std.specs.Prelude.{◌≡◌, ℕ, List, Option, Some, None, Result, 
 use Rattle.bucket_eval.specs.declared.answers.Row.{Row}
 use Rattle.bucket_eval.specs.declared.answers.Answer.{Answer}
 use Rattle.bucket_eval.specs.declared.answers.Verdict.{Verdict}
-use Rattle.line_answers.specs.Answers.{by_policy_text, by_fallback_text, from_agent_text, not_resolved_text, no_agent_text, agent_gone_text, agent_full_text, ruling}
+use Rattle.line_answers.specs.Answers.{by_policy_text, by_fallback_text, from_agent_text, not_resolved_text}
+use Rattle.line_answers.specs.Answers.{no_agent_text, agent_gone_text, agent_full_text, ruling}
 use Rattle.run_endings.specs.Saying.{Said, silence}
 use Rattle.run_endings.specs.declared.endings.Ending.{Ending}
 use Rattle.run_endings.specs.declared.endings.Ending.TheVariants.{Done, Memory, Sink, Net, Reply}
@@ -25,8 +26,8 @@ abbrev pub checked_text : Checked → List ℕ
 checked_text (Judged verdict) = verdict_line verdict
 checked_text (FromAgent commit kind number allowed) = from_agent_text commit allowed kind.0 number
 
--- The line of an answer, or the ending of a run without one. What the service refuses is an answer. Nobody told the client of
--- a commit, so that no reply is older than what it was told of.
+-- The line of an answer, or the ending of a run without one. What the service refuses is an answer. Nobody told the
+-- client of a commit, so that no reply is older than what it was told of.
 abbrev pub line_of : Result Checked ClientRefusal → Result (List ℕ) Ending
 line_of (Ok checked) = Ok (checked_text checked)
 line_of (Err (refusal.NotResolved commit kind)) = Ok (not_resolved_text commit kind.0)

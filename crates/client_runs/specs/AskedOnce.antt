@@ -1,4 +1,5 @@
--- One check, by a client that is made for it: it has no link, keeps nothing and was told of nothing, and gives its link back.
+-- One check, by a client that is made for it: it has no link, keeps nothing and was told of nothing, and gives its link
+-- back.
 use Rattle.std.specs.Prelude.{◌≡◌, ◌⊎◌, ℕ, Bool, false, List, [], ◌∷◌, Option, Some, None, Result, Ok, Err}
 use Rattle.std.specs.declared.alloc.AllocError.{AllocError}
 use Rattle.desk_ports.specs.Faults.{next_count}
@@ -44,8 +45,8 @@ link_of other = None
 
 module _ {N L : Type 0} (link_faults : L → ℕ) (marks : L → LinkMarks) (traffic : L → Option Traffic)
     (faults dials : N → ℕ) (given_back : N → Option (List L)) where
-  -- The question went out on links that were dialled, up to three, and this came of it. The link of the reply was given back,
-  -- as those were on which no whole reply came.
+  -- The question went out on links that were dialled, up to three, and this came of it. The link of the reply was given
+  -- back, as those were on which no whole reply came.
   pub record AskedOnce (frame : List ℕ) (answer : Result Checked ClientRefusal) (before after : N) : Type 0 where
     pub came_of : Outcome L
     pub between : N
@@ -62,8 +63,8 @@ module _ {N L : Type 0} (link_faults : L → ℕ) (marks : L → LinkMarks) (tra
   abbrev pub AsksOnce : List ℕ → Result Checked ClientRefusal → N → N → Type 0
   AsksOnce frame answer before after = AskedOnce frame answer before after ⊎ Unasked answer before after
 
-  -- The question went out once, over one link, and this was read. The link was dialled and given back. No call of it failed, and it was
-  -- up until then.
+  -- The question went out once, over one link, and this was read. The link was dialled and given back. No call of it
+  -- failed, and it was up until then.
   pub record AskedOverOne (frame : List ℕ) (read : Result Framed Broken) (before after : N) : Type 0 where
     pub link : L
     pub came : CameOver link_faults marks traffic frame None read link

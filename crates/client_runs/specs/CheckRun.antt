@@ -20,15 +20,17 @@ abbrev pub question_of : AskedNames → Question
 question_of asked = record { client = asked.client; user = asked.user; privilege = asked.privilege }
 
 -- The question was asked once, and this is said of the answer; by what a dialler tells, and its links.
-abbrev pub RunsCheck : {N L H : Type 0} → DialTells N L H → LinkTells L H → AskedNames → Bool → Said → Ending → N → N → Type 0
+abbrev pub RunsCheck : {N L H : Type 0} → DialTells N L H → LinkTells L H → AskedNames → Bool → Said → Ending → N → N
+    → Type 0
 RunsCheck dial link asked simple said ending before after =
     (answer : Result Checked ClientRefusal)
-    × AsksOnce link.faults link.marks link.traffic dial.faults dial.dials dial.given_back (first_frame simple (question_of asked))
+    × AsksOnce link.faults link.marks link.traffic dial.faults dial.dials dial.given_back
+    (first_frame simple (question_of asked))
     answer before after
     × Says answer said ending
 
--- The count of the dialler behind a run: three dials or links failed where the service was out of reach. Else up to three
--- were counted, the link of the reply among them.
+-- The count of the dialler behind a run: three dials or links failed where the service was out of reach. Else up to
+-- three were counted, the link of the reply among them.
 abbrev pub IsCounted : Ending → ℕ → ℕ → Type 0
 IsCounted Net before after = after ≡ counted 3 before
 IsCounted ending before after = (rise : ℕ) × (rise ≤ 3) × (after ≡ counted rise before)
@@ -51,12 +53,14 @@ SaysReply (Ok line) said ending = ⊥
 SaysReply (Err Reply) said Reply = said ≡ silence
 SaysReply (Err wanted) said ending = ⊥
 
--- Where no call of the net and of the sink fails, the question goes out once, over one link. What comes over it is an answer, whose line
--- is said, or it is none; or no memory was found, and nothing is said.
-abbrev pub CompletesCheck : {N L H : Type 0} → DialTells N L H → LinkTells L H → AskedNames → Bool → Said → Ending → N → N → Type 0
+-- Where no call of the net and of the sink fails, the question goes out once, over one link. What comes over it is an
+-- answer, whose line is said, or it is none; or no memory was found, and nothing is said.
+abbrev pub CompletesCheck : {N L H : Type 0} → DialTells N L H → LinkTells L H → AskedNames → Bool → Said → Ending → N
+    → N → Type 0
 CompletesCheck dial link asked simple said ending before after =
     ((read : Result Framed Broken)
-    × AskedOverOne link.faults link.marks link.traffic dial.faults dial.dials dial.given_back (first_frame simple (question_of asked))
+    × AskedOverOne link.faults link.marks link.traffic dial.faults dial.dials dial.given_back
+    (first_frame simple (question_of asked))
     read before after
     × SaysReply (line_of (answer_in read)) said ending)
     ⊎ ((ending ≡ Memory) × (said ≡ silence))

@@ -35,7 +35,8 @@ pub fn run_check<N: Dial, K: Sink>(
         × WritesAnswers result said (sink_seen K.taken K.faults sink.old) (sink_seen K.taken K.faults sink.new) }
     ensures count { IsCounted result (N.faults dial.old) (N.faults dial.new) }
     ensures ends { EndsCheck result }
-    ensures completes { Unraised (N.faults dial.old) (N.faults dial.new) → Unraised (K.faults sink.old) (K.faults sink.new)
+    ensures completes { Unraised (N.faults dial.old) (N.faults dial.new)
+        → Unraised (K.faults sink.old) (K.faults sink.new)
         → (said : Said) × CompletesCheck N.Dial N.Link.Link asked.now false said result dial.old dial.new
         × WritesAnswers result said (sink_seen K.taken K.faults sink.old) (sink_seen K.taken K.faults sink.new) }
 {
@@ -54,7 +55,8 @@ pub fn run_simple<N: Dial, K: Sink>(
         × WritesAnswers result said (sink_seen K.taken K.faults sink.old) (sink_seen K.taken K.faults sink.new) }
     ensures count { IsCounted result (N.faults dial.old) (N.faults dial.new) }
     ensures ends { EndsCheck result }
-    ensures completes { Unraised (N.faults dial.old) (N.faults dial.new) → Unraised (K.faults sink.old) (K.faults sink.new)
+    ensures completes { Unraised (N.faults dial.old) (N.faults dial.new)
+        → Unraised (K.faults sink.old) (K.faults sink.new)
         → (said : Said) × CompletesCheck N.Dial N.Link.Link asked.now true said result dial.old dial.new
         × WritesAnswers result said (sink_seen K.taken K.faults sink.old) (sink_seen K.taken K.faults sink.new) }
 {
@@ -73,7 +75,8 @@ fn run<N: Dial, K: Sink>(
         × WritesAnswers result said (sink_seen K.taken K.faults sink.old) (sink_seen K.taken K.faults sink.new) }
     ensures count { IsCounted result (N.faults dial.old) (N.faults dial.new) }
     ensures ends { EndsCheck result }
-    ensures completes { Unraised (N.faults dial.old) (N.faults dial.new) → Unraised (K.faults sink.old) (K.faults sink.new)
+    ensures completes { Unraised (N.faults dial.old) (N.faults dial.new)
+        → Unraised (K.faults sink.old) (K.faults sink.new)
         → (said : Said) × CompletesCheck N.Dial N.Link.Link asked.now simple said result dial.old dial.new
         × WritesAnswers result said (sink_seen K.taken K.faults sink.old) (sink_seen K.taken K.faults sink.new) }
 {
@@ -100,8 +103,8 @@ fn answer_to<N: Dial>(
     }
 }
 
-/// What a client that is made for this question is answered: the question goes out once at most on each of three links that are
-/// dialled, and the link is given back. An agent may be asked, unless `simple` is set. It may wait.
+/// What a client that is made for this question is answered: the question goes out once at most on each of three links
+/// that are dialled, and the link is given back. An agent may be asked, unless `simple` is set. It may wait.
 pub fn ask_once<N: Dial>(
     alloc: Global,
     session: &Name,

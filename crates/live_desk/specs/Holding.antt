@@ -14,9 +14,11 @@ AtLast seat Is = (desk : DeskState)
     × (seat.note ≤ desk.commit)
     × Is desk
 
--- A call of f that was lent this state, some room, and two values answered so, and left two other values in their place.
+-- A call of f that was lent this state, some room, and two values answered so, and left two other values in their
+-- place.
 pub record AnswersAt {F S A B R : Type 0}
-    (g : Once F (Bor DeskState × (MutBor S × (MutBor A × (MutBor B × Unit {0})))) (R × (MutBor S × (MutBor A × (MutBor B × Unit {0})))))
+    (g : Once F (Bor DeskState × (MutBor S × (MutBor A × (MutBor B × Unit {0}))))
+    (R × (MutBor S × (MutBor A × (MutBor B × Unit {0})))))
     (f : F) (desk : DeskState) (first : A) (second : B) (answer : R) (first_left : A) (second_left : B)
     : Type 0 where
   pub shown : Bor DeskState

@@ -12,8 +12,8 @@ use Rattle.live_roll.specs.Events.{EndsWith, NoneAbove}
 use Rattle.live_desk.specs.declared.verdicts.BorrowedVerdict.{BorrowedVerdict}
 use Rattle.live_desk.specs.History.{IsLast, Rises}
 
--- its number, the greatest note that it was told, the published states that it has seen, and the roll's log as it was told
--- last
+-- its number, the greatest note that it was told, the published states that it has seen, and the roll's log as it was
+-- told last
 pub record SeatState : Type 0 where
   pub number : ℕ
   pub note : ℕ

@@ -1,5 +1,5 @@
--- What readers are shown. There is one list of published states, which only grows, and whose commits rise. Each copy that a
--- reader may take bears a front of that list, of which its own state is the last. The publisher's is all of it.
+-- What readers are shown. There is one list of published states, which only grows, and whose commits rise. Each copy
+-- that a reader may take bears a front of that list, of which its own state is the last. The publisher's is all of it.
 use Rattle.std.specs.Prelude.{List}
 use Rattle.desk_state.specs.DeskState.{DeskState}
 use Rattle.live_desk.specs.History.{IsLast, Rises}

@@ -99,8 +99,8 @@ where
 }
 
 impl<J: Naming> Publisher<J> {
-    /// A publisher that has published this state alone, with room for so many seats, and what a seat knows that has seen
-    /// nothing.
+    /// A publisher that has published this state alone, with room for so many seats, and what a seat knows that has
+    /// seen nothing.
     #[tactic(auto, using(crate::proofs::Looks::shown_first, crate::proofs::Looks::last_first))]
     pub(crate) fn open<R: Wait>(
         rt: &R,
@@ -235,7 +235,8 @@ fn put<J: Naming, R: Wait>(writer: DeskWriter<J>, rt: &R, shown: Shown<J>) -> (D
     (show_all(queue(writer, rt, shown), rt), ())
 }
 
-// Puts it behind the operations. There is room for it since the writer was opened; where there is not, it is tried again.
+// Puts it behind the operations. There is room for it since the writer was opened; where there is not, it is tried
+// again.
 fn queue<J: Naming, R: Wait>(writer: DeskWriter<J>, rt: &R, shown: Shown<J>) -> DeskWriter<J>
     ensures { (more : List ShownState) × (drop result.behind result.log.items ≡ more ++ shown ∷ []) }
 {
@@ -250,8 +251,8 @@ fn queue<J: Naming, R: Wait>(writer: DeskWriter<J>, rt: &R, shown: Shown<J>) -> 
     unreachable!()
 }
 
-// Shows all operations to the seats. It fails where there are more owners of a copy than can be counted; then it is tried
-// again.
+// Shows all operations to the seats. It fails where there are more owners of a copy than can be counted; then it is
+// tried again.
 fn show_all<J: Naming, R: Wait>(writer: DeskWriter<J>, rt: &R) -> DeskWriter<J>
     ensures { result.desk.shown.value.latest
         ≡ fold (λ _ next. Some next) writer.desk.shown.value.latest (drop writer.behind writer.log.items) }

@@ -100,8 +100,8 @@ impl<J: Naming> Seat<J> {
     }
 
     /// The evaluation of the last state that the seat has then seen, whose commit is not below the greatest note that
-    /// the seat was told. The states that it had seen before are a front of those. Takes no lock and no memory. It tries
-    /// again where the newest copy is older than the note, so it may wait.
+    /// the seat was told. The states that it had seen before are a front of those. Takes no lock and no memory. It
+    /// tries again where the newest copy is older than the note, so it may wait.
     pub fn check<R: Wait>(&mut self, rt: &R, question: &Question) -> Verdict
         ensures same { self.new ≡ record self.old { seen = self.new.seen } }
         ensures seen { GoesOn self.old.seen self.new.seen }
@@ -200,7 +200,8 @@ fn look<J: Naming>(
     }
 }
 
-// Takes notice of the states up to that of the copy, where it has one whose commit is not below the note; whether it did.
+// Takes notice of the states up to that of the copy, where it has one whose commit is not below the note; whether it
+// did.
 #[tactic(auto, using(crate::proofs::Looks::goes_on_all))]
 fn is_seen<J: Naming>(copies: &Published<J>, front: &mut Front<Desk, J>, note: u64) -> bool
     ensures seen { GoesOn front.old front.new }

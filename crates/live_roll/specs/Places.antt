@@ -1,5 +1,5 @@
--- The places of a roll, in each of which an end may stand, with the commit at which it entered. An end that was hung up stays
--- in its place until the next connection comes there, so that it can be said of it that it was.
+-- The places of a roll, in each of which an end may stand, with the commit at which it entered. An end that was hung up
+-- stays in its place until the next connection comes there, so that it can be said of it that it was.
 use Rattle.std.specs.Prelude.{◌≡◌, ℕ, nat_lt, Bool, true, false, not, List, [], ◌∷◌, filter, length, Option, Some, None}
 use Rattle.std.specs.List.{AllByRecursion}
 use Rattle.live_roll.specs.declared.entries.Entry.{Entry}
@@ -9,7 +9,8 @@ module _ {H : Type 0} (used : H → Bool) where
   abbrev pub IsHungUp : Option (Entry H) → Option (Entry H) → Type 0
   IsHungUp None now = now ≡ None
   IsHungUp (Some entry) None = ⊥
-  IsHungUp (Some entry) (Some now) = (now.entered ≡ entry.entered) × (used now.end ≡ true) × (now.has_left ≡ entry.has_left)
+  IsHungUp (Some entry) (Some now) =
+      (now.entered ≡ entry.entered) × (used now.end ≡ true) × (now.has_left ≡ entry.has_left)
 
   -- the place, once its connection left: the end stands there still, and is used
   abbrev pub IsLeft : Option (Entry H) → Option (Entry H) → Type 0

@@ -1,5 +1,6 @@
 -- The roll of connections that a commit must hang up.
-use Rattle.std.specs.Prelude.{◌≡◌, ℕ, max, nat_lt, Bool, true, false, if◌then◌else◌, List, [], ◌∷◌, ◌++◌, length, slice_set, get_or, Option, Some, None}
+use Rattle.std.specs.Prelude.{◌≡◌, ℕ, max, nat_lt, Bool, true, false, if◌then◌else◌, List, [], ◌∷◌, ◌++◌, length}
+use Rattle.std.specs.Prelude.{slice_set, get_or, Option, Some, None}
 use Rattle.std.specs.List.{AllByRecursion}
 use Rattle.live_roll.specs.declared.answers.Left.{Left}
 use Rattle.live_roll.specs.declared.answers.Left.TheVariants.{Still, Hung as LeftHung, Stopped}
@@ -58,7 +59,8 @@ LeavesPlace {H} used seat roll now = (place : Option (Entry H))
     × IsLeft used (get_or roll.places seat None) place
     × (now ≡ record roll { places = slice_set roll.places seat place })
 
--- the note is at least this commit, the ends that entered below the note are hung up, and the log says so of this commit
+-- the note is at least this commit, the ends that entered below the note are hung up, and the log says so of this
+-- commit
 pub record HangsTo {H : Type 0} (used : H → Bool) (commit : ℕ) (roll now : RollState H) : Type 0 where
   pub workers : now.workers ≡ roll.workers
   pub note : now.note ≡ max roll.note commit

@@ -95,8 +95,8 @@ impl<H: HangEnd, J: Naming> Roll<H, J> {
     }
 
     /// A connection enters at the roll's note, which is told to the seat and answered. Its end stands in the seat's
-    /// place; one that stood there is hung up first, and dropped. The log says that it entered, and the seat is told the
-    /// log up to that, in which no connections were hung up for a later commit. Refuses exactly where the roll is
+    /// place; one that stood there is hung up first, and dropped. The log says that it entered, and the seat is told
+    /// the log up to that, in which no connections were hung up for a later commit. Refuses exactly where the roll is
     /// stopped; the end then comes back.
     #[tactic(auto, using(crate::proofs::Following::none_above_note))]
     pub fn enter<R: Wait, S: Seated<J>>(
@@ -135,7 +135,8 @@ impl<H: HangEnd, J: Naming> Roll<H, J> {
     }
 
     /// A connection leaves that entered at this commit in the place of this seat: what stands there is hung up. `Hung`
-    /// exactly where the note has risen above the commit, else `Stopped` exactly where the roll is stopped, else `Still`.
+    /// exactly where the note has risen above the commit, else `Stopped` exactly where the roll is stopped, else
+    /// `Still`.
     #[tactic(auto, using(crate::proofs::Keeping::all_set))]
     pub fn leave(&mut self, seat: u32, entered: u64) -> Left
         requires { seat < 64 }

@@ -7,8 +7,8 @@
 //!
 //! Of the locks each call takes one and makes one proved call on what stands under it, or does so again each time that
 //! there is news. `service` alone takes both, the table's first, so that it tells of one moment. What another thread
-//! made of the table meanwhile no clause says. Of the roll each entry tells the seat, and each disconnect the front that
-//! it is given, what happened up to it: fronts of one log, whose name stands in the type of the hall.
+//! made of the table meanwhile no clause says. Of the roll each entry tells the seat, and each disconnect the front
+//! that it is given, what happened up to it: fronts of one log, whose name stands in the type of the hall.
 #![tactic(auto)]
 
 mod calls;

@@ -9,8 +9,8 @@ use std::sync::atomic::{AtomicU64, Ordering};
 use std::time::{Clock, Duration, Instant};
 use std::{io, thread};
 
-/// The socket that the doors of one kind share, the knocks that their accepts are still to answer, and how many accepts wait
-/// for a connection.
+/// The socket that the doors of one kind share, the knocks that their accepts are still to answer, and how many accepts
+/// wait for a connection.
 #[derive(Drop)]
 pub struct Commons {
     listener: UnixListener,
@@ -65,8 +65,8 @@ impl Commons {
         let _ = steps::shut_down(&self.hold);
     }
 
-    /// The next connection. Nothing where a knock is answered, and then a connection that was met is hung up, or where the
-    /// listener was shut down. It waits for one, and tries again after an error that passes by itself.
+    /// The next connection. Nothing where a knock is answered, and then a connection that was met is hung up, or where
+    /// the listener was shut down. It waits for one, and tries again after an error that passes by itself.
     pub fn accept<R: Clock>(&self, rt: &R) -> io::Result<Option<Accepted>> {
         for _ in 0..steps::MOST_TRIES {
             let start = Instant::now(rt)?;
@@ -115,8 +115,8 @@ impl Commons {
         self.waiting.load(Ordering::SeqCst) == 0
     }
 
-    /// Whether all workers of the kind are taken, and a connection waits for one. Where the machine does not tell it, one
-    /// may.
+    /// Whether all workers of the kind are taken, and a connection waits for one. Where the machine does not tell it,
+    /// one may.
     pub fn has_line<R: HostNet + AllocGlobal>(&self, rt: &R) -> bool {
         if !self.is_taken() {
             return false;

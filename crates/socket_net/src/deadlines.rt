@@ -9,8 +9,8 @@ use std::os::unix::net::UnixStream;
 use std::time::{Clock, Duration, Instant};
 use std::{io, thread};
 
-/// When the calls over a connection that was dialled are over, if they ever are. It is one time for all of them: a call that
-/// began late has less time, and one that begins behind it fails as `TimedOut`.
+/// When the calls over a connection that was dialled are over, if they ever are. It is one time for all of them: a call
+/// that began late has less time, and one that begins behind it fails as `TimedOut`.
 #[derive(Clone, Copy)]
 pub struct Deadline<R: Copy> {
     rt: R,
@@ -24,9 +24,9 @@ impl<R: HostNet + Clock + Copy + Drop> Deadline<R> {
         Deadline { rt, over_at }
     }
 
-    /// A connection to the service behind the socket file. It may wait for room in the queue of connections: without a deadline
-    /// in one call of the machine, and else by looking again each few milliseconds, since no call of the machine waits for that
-    /// so long and no longer.
+    /// A connection to the service behind the socket file. It may wait for room in the queue of connections: without a
+    /// deadline in one call of the machine, and else by looking again each few milliseconds, since no call of the
+    /// machine waits for that so long and no longer.
     pub fn connect(&self, path: &str) -> io::Result<UnixStream> {
         if self.over_at.is_none() {
             return steps::connect(&self.rt, path);

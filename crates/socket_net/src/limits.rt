@@ -1,7 +1,7 @@
 // How long a peer may keep a worker of a service, and so others waiting.
 //
-// The limits hold for links that came in at a door; a link that was dialled waits for ever, but where its net has a deadline.
-// Each time is judged by the clock, and given in milliseconds.
+// The limits hold for links that came in at a door; a link that was dialled waits for ever, but where its net has a
+// deadline. Each time is judged by the clock, and given in milliseconds.
 
 /// From the first bytes of a frame until the whole of it is there. A program of the same machine sends a frame in one
 /// write, so one that takes longer is stopped, or holds the worker on purpose.
@@ -14,9 +14,9 @@ pub const MOST_OF_SENDING: u64 = 5_000;
 /// before: it only asks once more what it had kept.
 pub const PATIENCE: u64 = 2_000;
 
-/// The same for a client's link that itself stood in line, or to which nothing was sent yet. The line is first come, first
-/// served: with the longer patience for all, whoever comes behind forty idle links at four workers would wait for twenty
-/// seconds.
+/// The same for a client's link that itself stood in line, or to which nothing was sent yet. The line is first come,
+/// first served: with the longer patience for all, whoever comes behind forty idle links at four workers would wait for
+/// twenty seconds.
 pub const SHORT_PATIENCE: u64 = 10;
 
 /// How long an administrator's link may be silent in any case: there is one worker for them all.
@@ -28,8 +28,8 @@ pub const ACCEPT_PAUSE: u64 = 100;
 /// How long a dial that has a deadline pauses before it looks again whether the queue of connections has room.
 pub const CONNECT_PAUSE: u64 = 5;
 
-/// How long an `accept` or a read waits before it looks around again. Each look of each worker takes the processor a few
-/// microseconds, so that all workers of an idle service together take less than a thousandth of one.
+/// How long an `accept` or a read waits before it looks around again. Each look of each worker takes the processor a
+/// few microseconds, so that all workers of an idle service together take less than a thousandth of one.
 pub const TICK: u64 = 1_250;
 
 /// The same for a write, which waits only where a peer doesn't read.

@@ -8,8 +8,8 @@ use std::os::unix::net::UnixStream;
 use std::time::Clock;
 
 /// How the connection of an administrator is made anew. The service lets go of one that is silent, and what an
-/// administrator sends depends on no message before it. A client's connection is never made anew under its link, since its
-/// end is what tells the client to forget its answers.
+/// administrator sends depends on no message before it. A client's connection is never made anew under its link, since
+/// its end is what tells the client to forget its answers.
 #[derive(Drop)]
 pub struct Renewal {
     path: Path,
@@ -21,8 +21,8 @@ impl Renewal {
         Renewal { path }
     }
 
-    /// Sends all bytes before the deadline. Where the other end has closed the connection, so that none of them was taken, the
-    /// connection is made anew, and they are sent on it. It may wait for room in the queue of connections.
+    /// Sends all bytes before the deadline. Where the other end has closed the connection, so that none of them was
+    /// taken, the connection is made anew, and they are sent on it. It may wait for room in the queue of connections.
     pub fn send<R: HostNet + Clock + Copy + Drop>(
         &self,
         deadline: &Deadline<R>,

@@ -17,8 +17,8 @@ use std::time::{Clock, Duration, Instant};
 // The most milliseconds that are told apart.
 const MOST_MILLIS: u128 = u64::MAX as u128;
 
-/// What decides how long a link that came in at a door may keep its worker. What the peer does within the limits, and what
-/// the limits are, no clause says.
+/// What decides how long a link that came in at a door may keep its worker. What the peer does within the limits, and
+/// what the limits are, no clause says.
 #[derive(Drop)]
 pub struct Stay<R: HostNet + AllocGlobal + Clock + Copy + Drop> {
     rt: R,
@@ -39,8 +39,8 @@ pub struct Stay<R: HostNet + AllocGlobal + Clock + Copy + Drop> {
 }
 
 impl<R: HostNet + AllocGlobal + Clock + Copy + Drop> Stay<R> {
-    /// That of a connection which was just accepted, and may have stood in line before. The machine lets no read or write
-    /// of it wait for ever from then on.
+    /// That of a connection which was just accepted, and may have stood in line before. The machine lets no read or
+    /// write of it wait for ever from then on.
     pub fn begin(
         rt: R,
         commons: Arc<Commons, Global>,
@@ -69,8 +69,8 @@ impl<R: HostNet + AllocGlobal + Clock + Copy + Drop> Stay<R> {
         Ok(stay)
     }
 
-    /// The next bytes, at the front of the slice. None where the connection was closed, and where it may keep its worker no
-    /// longer: then it is closed, and nothing that the peer could send before is lost.
+    /// The next bytes, at the front of the slice. None where the connection was closed, and where it may keep its
+    /// worker no longer: then it is closed, and nothing that the peer could send before is lost.
     pub fn receive(&mut self, stream: &mut UnixStream, into: &mut [u8]) -> Result<usize, Fault>
         ensures within { IfOk result (λ count. count ≤ length into.old) }
     {
@@ -127,9 +127,10 @@ impl<R: HostNet + AllocGlobal + Clock + Copy + Drop> Stay<R> {
         Err(Fault::Kind(ErrorKind::Interrupted))
     }
 
-    /// Whether a `receive` waits for nothing: bytes came, or the connection was closed, or may keep its worker no longer. Then
-    /// it is closed for what the peer may still send, so that the `receive` finds the end behind what was sent before. It waits
-    /// for bytes itself, no longer than a look takes. A wait between two frames begins anew with each look.
+    /// Whether a `receive` waits for nothing: bytes came, or the connection was closed, or may keep its worker no
+    /// longer. Then it is closed for what the peer may still send, so that the `receive` finds the end behind what was
+    /// sent before. It waits for bytes itself, no longer than a look takes. A wait between two frames begins anew with
+    /// each look.
     pub fn has_come(&mut self, stream: &mut UnixStream) -> Result<bool, Fault> {
         let start = self.start()?;
         self.tick_by(stream, limits::LOOK)?;
@@ -151,8 +152,8 @@ impl<R: HostNet + AllocGlobal + Clock + Copy + Drop> Stay<R> {
         self.commons.has_line(&self.rt)
     }
 
-    // Whether it is to be looked now whether another waits, between two frames: a peer that asks without a pause holds its
-    // worker as one that is silent does.
+    // Whether it is to be looked now whether another waits, between two frames: a peer that asks without a pause holds
+    // its worker as one that is silent does.
     fn is_due(&self, now: Instant) -> bool {
         match self.look_at {
             Some(at) => at <= now,
@@ -221,8 +222,8 @@ impl<R: HostNet + AllocGlobal + Clock + Copy + Drop> Stay<R> {
         }
     }
 
-    // How long the peer may be waited for while another waits for the worker. An agent that was answered waits to be asked,
-    // or has a person before it.
+    // How long the peer may be waited for while another waits for the worker. An agent that was answered waits to be
+    // asked, or has a person before it.
     fn patience(&self) -> Option<u64> {
         match self.commons.kind() {
             DoorKind::Admin => Some(limits::PATIENCE),
@@ -259,8 +260,8 @@ impl<R: HostNet + AllocGlobal + Clock + Copy + Drop> Stay<R> {
         Ok(())
     }
 
-    /// Sends all bytes, or fails: as `steps::send`, and where the peer takes them too slowly. The clock is read only for
-    /// a long piece, and where the machine does not take a short one at once.
+    /// Sends all bytes, or fails: as `steps::send`, and where the peer takes them too slowly. The clock is read only
+    /// for a long piece, and where the machine does not take a short one at once.
     #[tactic(auto, using(crate::proofs::Appending::appended_rest))]
     pub fn send<W: Write>(&mut self, stream: &mut W, from: &[u8]) -> Result<(), Fault>
         ensures { OnOk result (Appended (W.contents stream.old) from.now (W.contents stream.new)) }

@@ -8,7 +8,8 @@ use Rattle.run_endings.specs.declared.endings.Ending.{Ending}
 use Rattle.agent_runs.specs.LinkSeen.{LinkSeen, DialSeen}
 use Rattle.agent_runs.specs.AgentTalk.{Served}
 
-pub record ServesDialled (kind : Kind) (allowed : Bool) (ending : Ending) (link : LinkSeen) (before after : DialSeen) (sink sink_after : SinkSeen) : Type 0 where
+pub record ServesDialled (kind : Kind) (allowed : Bool) (ending : Ending) (link : LinkSeen) (before after : DialSeen)
+    (sink sink_after : SinkSeen) : Type 0 where
   pub link_after : LinkSeen
   pub served : Served kind allowed ending link link_after sink sink_after
   pub given : AppendsTold before.given link_after after.given

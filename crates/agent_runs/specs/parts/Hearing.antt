@@ -43,7 +43,8 @@ IsListening s = (asked : Option Open) × (s ≡ listening asked)
 
 -- What the machine is once it gave a message with this sequence number. A question is to be answered.
 abbrev pub IsPut : Message → ℕ → AgentStage → Type 0
-IsPut (AgentQuestion number question result) sequence s = s ≡ listening (Some (record { number = number; sequence = sequence }))
+IsPut (AgentQuestion number question result) sequence s =
+    s ≡ listening (Some (record { number = number; sequence = sequence }))
 IsPut (KindTaken kind) sequence s = Unit {0}
 IsPut message sequence s = IsListening s
 
@@ -64,4 +65,5 @@ Takes piece.More old new link link_after = Came step.Wait old new link link_afte
 Takes (piece.Whole message) old new link link_after = Came (step.Reply message) old new link link_after
 Takes (piece.Over fault) old new link link_after = Came (step.Over fault) old new link link_after
 Takes piece.Ended old new link link_after = Carries [] [] true link link_after × (link_after.faults ≡ link.faults)
-Takes piece.Lost old new link link_after = Carries [] [] false link link_after × (link_after.faults ≡ next_count link.faults)
+Takes piece.Lost old new link link_after =
+    Carries [] [] false link link_after × (link_after.faults ≡ next_count link.faults)

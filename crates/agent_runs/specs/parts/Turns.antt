@@ -29,7 +29,8 @@ IsWhole text sink sink_after = Appended sink.taken text sink_after.taken × (sin
 
 -- the sink took a front of this text, and then a call of it failed
 abbrev pub IsCutShort : List ℕ → SinkSeen → SinkSeen → Type 0
-IsCutShort text sink sink_after = AppendedPart sink.taken text sink_after.taken × (sink_after.faults ≡ next_count sink.faults)
+IsCutShort text sink sink_after =
+    AppendedPart sink.taken text sink_after.taken × (sink_after.faults ≡ next_count sink.faults)
 
 -- how writing a line ends that is not written whole
 abbrev pub FailsToWrite : List ℕ → Result (Unit {0}) Ending → SinkSeen → SinkSeen → Type 0
@@ -48,7 +49,8 @@ WritesLine text result sink sink_after = FailsToWrite text result sink sink_afte
 abbrev pub SendsFrame : List ℕ → Result (Unit {0}) Ending → LinkSeen → LinkSeen → Type 0
 SendsFrame frame (Ok value) link link_after = Carries frame [] false link link_after × (link_after.faults ≡ link.faults)
 SendsFrame frame (Err Memory) link link_after = link_after ≡ link
-SendsFrame frame (Err Net) link link_after = Carries [] [] false link link_after × (link_after.faults ≡ next_count link.faults)
+SendsFrame frame (Err Net) link link_after =
+    Carries [] [] false link link_after × (link_after.faults ≡ next_count link.faults)
 SendsFrame frame (Err ending) link link_after = ⊥
 
 -- the same by what the machine answered: it is sent, or no memory was found for it
@@ -58,11 +60,12 @@ Sends other frame result link link_after = (result ≡ Err Memory) × (link_afte
 
 -- ---- one message
 
--- How answering ends: the answer to a question is sent, to another message there is none, and behind a kind that is taken the
--- run is done.
+-- How answering ends: the answer to a question is sent, to another message there is none, and behind a kind that is
+-- taken the run is done.
 abbrev pub Answers : Bool → ℕ → Message → Result (Unit {0}) Ending → Agent → LinkSeen → LinkSeen → Type 0
 Answers allowed sequence message (Ok value) new link link_after =
-    (IsRefused message → ⊥) × IsListening new.stage × Carries (answer_for allowed sequence message) [] false link link_after
+    (IsRefused message → ⊥) × IsListening new.stage
+    × Carries (answer_for allowed sequence message) [] false link link_after
     × (link_after.faults ≡ link.faults)
 Answers allowed sequence message (Err Done) new link link_after = IsRefused message × (link_after ≡ link)
 Answers allowed sequence message (Err Net) new link link_after =
@@ -85,8 +88,8 @@ abbrev pub IsBegun : Bool → List ℕ → Type 0
 IsBegun true there = 0 < length there
 IsBegun false there = there ≡ []
 
--- The registration was sent, these messages were heard, and each was written of and answered; and these bytes of the next one
--- are there.
+-- The registration was sent, these messages were heard, and each was written of and answered; and these bytes of the
+-- next one are there.
 pub record Talked (kind : Kind) (allowed : Bool) (messages : List Framed) (machine : Agent) (begun : Bool)
     (link link_after : LinkSeen) (sink sink_after : SinkSeen) : Type 0 where
   pub received : List ℕ

@@ -11,11 +11,11 @@ use state_list::Naming;
 use std::sync::Wait;
 
 impl<J: Naming> Seat<J> {
-    /// Holds the newest state while `answer` runs, which is called once and may make any number of checks, all of that one
-    /// state. It is the last state that the seat has then seen, and its commit is not below the greatest note that the seat
-    /// was told. `answer` is lent the state, the seat's room for one question, and the two values that it is to change.
-    /// Takes no lock and no memory. It tries again where the newest copy is older than the note, so it may wait; and the
-    /// publisher waits until `answer` returns, which should wait for nothing.
+    /// Holds the newest state while `answer` runs, which is called once and may make any number of checks, all of that
+    /// one state. It is the last state that the seat has then seen, and its commit is not below the greatest note that
+    /// the seat was told. `answer` is lent the state, the seat's room for one question, and the two values that it is
+    /// to change. Takes no lock and no memory. It tries again where the newest copy is older than the note, so it may
+    /// wait; and the publisher waits until `answer` returns, which should wait for nothing.
     #[tactic(auto, using(crate::proofs::Looks::holds_at_last))]
     pub fn hold_newest<A, B, T, R: Wait, F: FnOnce(&DeskCopy, &mut Scratch, &mut A, &mut B) -> T>(
         &mut self,
