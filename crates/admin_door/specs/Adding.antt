@@ -35,8 +35,8 @@ pub record IsAcknowledged (now : AdminSide) (commit : ℕ) : Type 0 where
   pub last : IsLast now.published now.desk
   pub cleared : now.tally.cleared ≡ commit
 
--- A command that is answered as done is acknowledged: and by then a disconnect up to its commit stands in this front of the
--- roll's log.
+-- A command that is answered as done is acknowledged: and by then a disconnect up to its commit stands in this front of
+-- the roll's log.
 abbrev pub Acknowledges : Message → AdminSide → List Event → List Message → Type 0
 Acknowledges message now hangs replies = (command : Command) (commit erased : ℕ) → command_of message ≡ Some command
     → replies ≡ Done commit erased ∷ [] → IsAcknowledged now commit × HasHung hangs commit

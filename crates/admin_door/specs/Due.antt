@@ -13,8 +13,8 @@ use Rattle.admin_door.specs.Adding.{Acknowledges}
 use Rattle.admin_door.specs.Serving.{replies_bytes}
 
 -- These replies are due: the message was answered so, from some state of what the door is served with, and what is
--- there now is what that left. A command that they tell as done is acknowledged, and a disconnect up to its commit stands in
--- this front of the roll's log; and the hall was stopped where they answer a stop.
+-- there now is what that left. A command that they tell as done is acknowledged, and a disconnect up to its commit
+-- stands in this front of the roll's log; and the hall was stopped where they answer a stop.
 pub record AreDue (message : Message) (now : AdminSide) (hangs : List Event) (replies : List Message) : Type 0 where
   pub told : Option DiskState
   pub old : AdminSide

@@ -11,7 +11,8 @@ use Rattle.wire_messages.specs.Commands.{command_of}
 use Rattle.wire_fields.specs.declared.messages.Message.TheVariants.{Done}
 use Rattle.admin_door.specs.Serving.{Exchange}
 
--- A front of the log that went on while states were published: where any was, a disconnect up to the last commit stands in it.
+-- A front of the log that went on while states were published: where any was, a disconnect up to the last commit stands
+-- in it.
 pub record HangsOn (published published_now : List DeskState) (hangs hangs_now : List Event) : Type 0 where
   pub begins : IsPrefix hangs hangs_now
   pub hung : (published_now ≡ published) ⊎ HasHung hangs_now (last_commit 0 published_now)

@@ -20,9 +20,9 @@ use server_hall::Hall;
 use std::sync::Wait;
 use wire_messages::{Feeder, Framed, Message};
 
-/// A link of an administrator, beside the keeper's disk, the publisher and the hall that it is served with. What is bound
-/// by this alone can send no replies but those that are due by what stands in these, whether or not it returns. Each
-/// link is such a link.
+/// A link of an administrator, beside the keeper's disk, the publisher and the hall that it is served with. What is
+/// bound by this alone can send no replies but those that are due by what stands in these, whether or not it returns.
+/// Each link is such a link.
 pub trait DueLink<D: Disk, J: Naming, A: Hall, P: KeptPublisher<D, J>> {
     /// The bytes received and sent so far, where it tells them.
     ghost traffic: { Self → Option Traffic };

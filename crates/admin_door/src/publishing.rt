@@ -29,8 +29,8 @@ pub trait KeptPublisher<D: Disk, J: Naming> {
         ensures ready { IfOk result (λ ready. ready ≡ desk.now) }
         ensures kept { states self.new ≡ states self.old };
 
-    /// Publishes the state that the folder keeps, and then hangs up all connections that entered before it. Where memory
-    /// is wanting, nothing is done.
+    /// Publishes the state that the folder keeps, and then hangs up all connections that entered before it. Where
+    /// memory is wanting, nothing is done.
     fn show<R: Wait, A: Hall<List = J>>(
         &mut self,
         rt: &R,

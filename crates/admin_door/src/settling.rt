@@ -13,7 +13,8 @@ ghost use Rattle.server_hall.specs.Tally.{Tally};
 ghost use Rattle.server_hall.specs.declared.calls.HallCall.{HallCall};
 ghost use Rattle.admin_door.specs.Side.{side_of, decided_of};
 ghost use Rattle.admin_door.specs.Hanging.{HangsOn};
-ghost use Rattle.admin_door.specs.Settling.{IsFound, Settles, Unsettles, LacksMemoryAlone, IsStillDamaged, with_last_shown};
+ghost use Rattle.admin_door.specs.Settling.{IsFound, Settles, Unsettles, LacksMemoryAlone, IsStillDamaged};
+ghost use Rattle.admin_door.specs.Settling.{with_last_shown};
 
 use crate::publishing::KeptPublisher;
 use desk_keeper::{Keeper, KeeperRefusal};
@@ -110,7 +111,8 @@ fn publish_kept<R: Wait, D: Disk, J: Naming, A: Hall<List = J>, P: KeptPublisher
     ensures shown { MatchResult result
         (λ _. side_of D.faults keeper.now (P.states publisher.new) (A.tally hall.new) (A.calls hall.new)
         ≡ with_last_shown (side_of D.faults keeper.now (P.states publisher.old) (A.tally hall.old) (A.calls hall.old)))
-        (λ reason. LacksMemoryAlone reason × (side_of D.faults keeper.now (P.states publisher.new) (A.tally hall.new) (A.calls hall.new)
+        (λ reason. LacksMemoryAlone reason
+        × (side_of D.faults keeper.now (P.states publisher.new) (A.tally hall.new) (A.calls hall.new)
         ≡ side_of D.faults keeper.now (P.states publisher.old) (A.tally hall.old) (A.calls hall.old))) }
     ensures even { OnOk result (last_commit 0 (P.states publisher.new) ≡ keeper.now.desk.commit) }
     ensures behind { last_commit 0 (P.states publisher.new) ≤ keeper.now.desk.commit }

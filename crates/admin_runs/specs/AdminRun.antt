@@ -110,7 +110,8 @@ module _ {N L : Type 0} (link_faults : L → ℕ) (marks : L → LinkMarks) (tra
 
   -- The messages of the steps that were read: each was sent once and answered, in order, but for a last one. The
   -- answers are due.
-  pub record SendsScript (said : Said) (ending : Ending) (source source_after : SourceSeen) (old new : State N L) : Type 0 where
+  pub record SendsScript (said : Said) (ending : Ending) (source source_after : SourceSeen)
+      (old new : State N L) : Type 0 where
     pub input : List ℕ
     pub rest : List ℕ
     pub steps : List Step
@@ -127,7 +128,8 @@ module _ {N L : Type 0} (link_faults : L → ℕ) (marks : L → LinkMarks) (tra
 
   -- The script was sent by a client without a link that numbers its first message 0, whose link was given back at the
   -- end.
-  pub record RunsAdmin (said : Said) (ending : Ending) (source source_after : SourceSeen) (before after : N) : Type 0 where
+  pub record RunsAdmin (said : Said) (ending : Ending) (source source_after : SourceSeen)
+      (before after : N) : Type 0 where
     pub client : State N L
     pub script : SendsScript said ending source source_after
         (record { dial = before; link = None; sequence = 0 }) client
@@ -139,11 +141,12 @@ module _ {N L : Type 0} (link_faults : L → ℕ) (marks : L → LinkMarks) (tra
   abbrev pub HasNoAnswer : AdminRefusal → List Message → State N L → State N L → Type 0
   HasNoAnswer why last old new = (message : Message) × (last ≡ message ∷ []) × SendsOnce message (Err why) old new
 
-  -- Behind the messages that were answered the run ends since the input has no further line, or a wrong one; or since what came in reply
-  -- to one more message is none, or its frame would be too long; or for want of memory.
+  -- Behind the messages that were answered the run ends since the input has no further line, or a wrong one; or since
+  -- what came in reply to one more message is none, or its frame would be too long; or for want of memory.
   abbrev pub EndsUnfailed : Ending → List ℕ → List Message → State N L → State N L → Type 0
   EndsUnfailed Done input last old new = (wrong_line (read_script Admin input) ≡ None) × IsNone last old new
-  EndsUnfailed (Line number) input last old new = (wrong_line (read_script Admin input) ≡ Some number) × IsNone last old new
+  EndsUnfailed (Line number) input last old new =
+      (wrong_line (read_script Admin input) ≡ Some number) × IsNone last old new
   EndsUnfailed Reply input last old new = (fault : ReplyFault) × HasNoAnswer (refusal.BadReply fault) last old new
   EndsUnfailed (TooLong size) input last old new = HasNoAnswer (refusal.TooLong size) last old new
   EndsUnfailed Memory input last old new = Unit {0}
@@ -151,7 +154,8 @@ module _ {N L : Type 0} (link_faults : L → ℕ) (marks : L → LinkMarks) (tra
 
   -- what such a run does
   abbrev pub CompletesAdmin : Said → Ending → SourceSeen → SourceSeen → N → N → Type 0
-  CompletesAdmin said ending source source_after before after = (run : RunsAdmin said ending source source_after before after)
+  CompletesAdmin said ending source source_after before after =
+      (run : RunsAdmin said ending source source_after before after)
       × EndsUnfailed ending run.script.input run.script.last run.script.between run.client
 
 -- The count of the dialler behind a run: one dial failed, or one link, where the service was out of reach. Else none

@@ -37,7 +37,8 @@ pub fn run_admin<S: Source, K: Sink, N: Dial>(
         × WritesAnswers result said (sink_seen K.taken K.faults sink.old) (sink_seen K.taken K.faults sink.new) }
     ensures source { S.faults source.new ≡ source_faults_after result (S.faults source.old) }
     ensures count { IsCounted result (N.faults dial.old) (N.faults dial.new) }
-    ensures completes { Unraised (S.faults source.old) (S.faults source.new) → Unraised (K.faults sink.old) (K.faults sink.new)
+    ensures completes { Unraised (S.faults source.old) (S.faults source.new)
+        → Unraised (K.faults sink.old) (K.faults sink.new)
         → Unraised (N.faults dial.old) (N.faults dial.new)
         → (said : Said) × CompletesAdmin N.Link.faults N.Link.marks N.Link.traffic N.faults N.dials N.given_back
         said result (source_seen S.left S.faults source.old) (source_seen S.left S.faults source.new) dial.old dial.new

@@ -25,9 +25,9 @@ use std::time::Clock;
 
 /// Serves connections of administrators, one after the other, until one of them has stopped the service, or it is told
 /// behind one that the service is stopped. Where its door accepts none it stops the service itself, by way of its own
-/// hall. What a stop at any moment may leave in the folder is told of the frames that came (`RunsOver`). Of each command
-/// that was answered as done a disconnect up to its commit stands in the front of the roll's log, which goes on with
-/// each (`AreHung`). It may wait.
+/// hall. What a stop at any moment may leave in the folder is told of the frames that came (`RunsOver`). Of each
+/// command that was answered as done a disconnect up to its commit stands in the front of the roll's log, which goes on
+/// with each (`AreHung`). It may wait.
 pub fn work_for_administrators<
     R: Wait + Clock,
     D: Disk,

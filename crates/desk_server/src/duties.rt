@@ -28,7 +28,8 @@ pub trait ClientDuty: Drop {
     ghost seat_of: { State → SeatState };
 
     /// What serving a connection makes of it, over a link of which this is told.
-    ghost visits: { {L : Type 0} → (L → Option Traffic) → (L → LinkMarks) → (L → ℕ) → State → Visit L → State → Type 0 };
+    ghost visits: { {L : Type 0} → (L → Option Traffic) → (L → LinkMarks) → (L → ℕ) → State → Visit L → State
+        → Type 0 };
 
     /// Serves connections of clients, one after the other, as `work_for_clients` does. It may wait.
     fn work<R: Wait + Clock, H: HangEnd, L: Link<End = H>, D: Door<Link = L>, G: Gate, J: Naming>(

@@ -15,7 +15,8 @@ use Rattle.desk_world.specs.declared.known.Known.{Known}
 use Rattle.desk_world.specs.declared.links.Asked.{Asked}
 use Rattle.desk_world.specs.declared.links.Link.{Link}
 use Rattle.desk_world.specs.declared.replies.Reply.{Reply}
-use Rattle.desk_world.specs.declared.replies.Reply.TheVariants.{Judged, FromAgent, NotResolved, NoAgent, AgentGone, AgentFull}
+use Rattle.desk_world.specs.declared.replies.Reply.TheVariants.{Judged, FromAgent, NotResolved, NoAgent, AgentGone}
+use Rattle.desk_world.specs.declared.replies.Reply.TheVariants.{AgentFull}
 
 -- the entry is one of the verdicts that the client received over its connection
 abbrev pub IsReceived : List Known → CacheKey × Verdict → Type 0

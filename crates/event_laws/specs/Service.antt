@@ -1,6 +1,7 @@
--- How a running service stands for a world of events: which value of its registry of connections, its publisher and its keeper is
--- which field of the world. What only clients hold is in `Caching`.
-use Rattle.std.specs.Prelude.{◌≡◌, ℕ, ◌==◌, nat_lt, Bool, true, false, if◌then◌else◌, List, [], ◌∷◌, ◌++◌, Option, Some, is_none, slice_get}
+-- How a running service stands for a world of events: which value of its registry of connections, its publisher and its
+-- keeper is which field of the world. What only clients hold is in `Caching`.
+use Rattle.std.specs.Prelude.{◌≡◌, ℕ, ◌==◌, nat_lt, Bool, true, false, if◌then◌else◌, List, [], ◌∷◌, ◌++◌, Option, Some}
+use Rattle.std.specs.Prelude.{is_none, slice_get}
 use Rattle.desk_state.specs.DeskState.{DeskState}
 use Rattle.live_roll.specs.Roll.{RollState}
 use Rattle.live_roll.specs.declared.entries.Entry.{Entry}
@@ -12,8 +13,8 @@ use Rattle.desk_world.specs.declared.links.Link.{Link}
 
 -- ---- the registry of connections
 
--- An end in the registry is that of this connection: it entered at the commit of the end, in this run of the service, and is closed
--- where the end was used.
+-- An end in the registry is that of this connection: it entered at the commit of the end, in this run of the service,
+-- and is closed where the end was used.
 pub record IsEndOf {H : Type 0} (used : H → Bool) (current : ℕ) (entry : Entry H) (link : Link) : Type 0 where
   pub run : link.run ≡ current
   pub entered : link.entered ≡ Some entry.entered
@@ -34,7 +35,8 @@ entered_in seat link link_of place = if place == seat then link else link_of pla
 abbrev pub unpublished : DeskState → List DeskState → List DeskState
 unpublished desk published = if nat_lt (last_commit 0 published) desk.commit then desk ∷ [] else []
 
--- The committed states are those of earlier runs, those that were published, and one at most that is kept and not published yet.
+-- The committed states are those of earlier runs, those that were published, and one at most that is kept and not
+-- published yet.
 pub record IsHistory (side : AdminSide) (world : World) : Type 0 where
   pub earlier : List DeskState
   pub all : history world ≡ earlier ++ (side.published ++ unpublished side.desk side.published)
@@ -42,7 +44,8 @@ pub record IsHistory (side : AdminSide) (world : World) : Type 0 where
 -- ---- both
 
 -- `link_of` tells of each place of the registry which connection entered there last.
-pub record StandsFor {H : Type 0} (used : H → Bool) (link_of : ℕ → ℕ) (roll : RollState H) (side : AdminSide) (world : World)
+pub record StandsFor {H : Type 0} (used : H → Bool) (link_of : ℕ → ℕ) (roll : RollState H) (side : AdminSide)
+    (world : World)
     : Type 0 where
   -- what each world keeps that events lead to
   pub kept : IsKept world

@@ -21,7 +21,8 @@ abbrev pub IsLeftBehind : AdminSide → World → DeskState → Type 0
 IsLeftBehind side world desk = IsFoundAs side world desk ⊎ IsBegun side world desk
 
 -- a service that has just been started with this state: that alone is published, and nobody stands in the registry
-pub record IsStarted {H : Type 0} (desk : DeskState) (workers : ℕ) (roll : RollState H) (side : AdminSide) : Type 0 where
+pub record IsStarted {H : Type 0} (desk : DeskState) (workers : ℕ) (roll : RollState H)
+    (side : AdminSide) : Type 0 where
   pub registry : IsNew desk.commit workers roll
   pub published : side.published ≡ desk ∷ []
   pub kept : side.desk ≡ desk

@@ -31,7 +31,8 @@ pub record HasCheck (world : World) (link : ℕ) (found : Link) (ask : ℕ) (che
   pub entered : found.entered ≡ Some commit
 
 -- the connection waits for this entry of the agents' log of its run, which stands so
-pub record Awaits (world : World) (found : Link) (commit : ℕ) (kind : Kind) (number : ℕ) (state : EntryState) : Type 0 where
+pub record Awaits (world : World) (found : Link) (commit : ℕ) (kind : Kind) (number : ℕ)
+    (state : EntryState) : Type 0 where
   pub waits : found.reading ≡ Waiting commit kind number
   pub entry : AgentEntry
   pub logged : entry_at found.run number world.entries ≡ Some entry

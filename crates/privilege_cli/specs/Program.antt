@@ -19,7 +19,8 @@ use Rattle.run_endings.specs.declared.endings.Ending.{Ending}
 use Rattle.run_endings.specs.declared.endings.Ending.TheVariants.{Memory, Words}
 use Rattle.command_words.specs.Commands.{uses_net}
 use Rattle.command_words.specs.declared.commands.Command.{Command}
-use Rattle.command_words.specs.declared.commands.Command.TheVariants.{Local, Serve, Watch, Check, Simple, Admin, Agent, SmackAccess, SmackLoad, Sample}
+use Rattle.command_words.specs.declared.commands.Command.TheVariants.{Local, Serve, Watch, Check, Simple, Admin, Agent}
+use Rattle.command_words.specs.declared.commands.Command.TheVariants.{SmackAccess, SmackLoad, Sample}
 use Rattle.script_replies.specs.Script.{wrong_line, replies}
 use Rattle.line_answers.specs.Answers.{decided_text}
 use Rattle.folder_runs.specs.Folder.{StandsFor}
@@ -36,10 +37,14 @@ use Rattle.serve_runs.specs.Run.{RunsPlain}
 use Rattle.watch_runs.specs.Watching.{RunsWatch, WritesLast}
 
 -- what a run sees of these objects, by what their types tell
-abbrev pub seen_of : {S K D N L H : Type 0} → SourceTells S → SinkTells K → DiskTells D → DialTells N L H → S → K → D → N → Outside
+abbrev pub seen_of : {S K D N L H : Type 0} → SourceTells S → SinkTells K → DiskTells D → DialTells N L H → S → K → D
+    → N → Outside
 seen_of source_tells sink_tells disk_tells dial_tells source sink disk net = seen
     (source_seen source_tells.left source_tells.faults source) (sink_seen sink_tells.taken sink_tells.faults sink)
-    (disk_seen disk_tells.state disk_tells.moment disk_tells.left_since disk_tells.faults disk) (record { faults = dial_tells.faults net })
+    (disk_seen disk_tells.state disk_tells.moment disk_tells.left_since disk_tells.faults disk) (record {
+      faults
+          = dial_tells.faults net;
+    })
 
 -- How often calls of the disk failed by the end of a run. Of a service `RunsServe` tells it.
 abbrev pub CountsDisk : Option Command → Ending → ℕ → ℕ → Type 0
@@ -82,9 +87,11 @@ module _ {N L H : Type 0} (dial : DialTells N L H) (link : LinkTells L H) (net n
       (found : Outcome) → outcome count ≡ Some found → Gives status before after (sample_text count found)
   -- a service gives no answers there; where its net did not fail either, it ends with 0, or for want of memory
   Completes (Some (Serve workers)) status before after =
-      (start : DeskState) → StandsFor before.disk start → Unraised before.net.faults after.net.faults → Gives status before after []
+      (start : DeskState) → StandsFor before.disk start → Unraised before.net.faults after.net.faults
+      → Gives status before after []
   Completes (Some (Watch workers)) status before after =
-      (start : DeskState) → StandsFor before.disk start → Unraised before.net.faults after.net.faults → (status ≡ 0) ⊎ (status ≡ 1)
+      (start : DeskState) → StandsFor before.disk start → Unraised before.net.faults after.net.faults → (status ≡ 0)
+      ⊎ (status ≡ 1)
   -- where the net did not fail either, what a peer replied is an answer, or it is none
   Completes (Some (Check asked)) status before after = Unraised before.net.faults after.net.faults
       → SaysAll status before after (λ said ending. CompletesCheck dial link asked false said ending net net_after)
@@ -101,7 +108,8 @@ module _ {N L H : Type 0} (dial : DialTells N L H) (link : LinkTells L H) (net n
 -- ---- the whole
 
 -- By what a net tells, and the links that it dials, and what it tells of its doors, with the links that these accept.
-module _ {N L H E A J : Type 0} (dial : DialTells N L H) (link : LinkTells L H) (closed : N → Option (List E)) (door : DoorTells E A J)
+module _ {N L H E A J : Type 0} (dial : DialTells N L H) (link : LinkTells L H) (closed : N
+    → Option (List E)) (door : DoorTells E A J)
     (accepted : LinkTells A J) where
   -- a service by so many workers of clients that ended so
   abbrev pub Serves : ℕ → DiskSeen → DiskSeen → N → N → Ending → Type 0
@@ -115,7 +123,8 @@ module _ {N L H E A J : Type 0} (dial : DialTells N L H) (link : LinkTells L H) 
     RunsCommand None = IsWordless ending × (said ≡ silence)
     RunsCommand (Some Local) = RunsLocal said ending source source_after disk disk_after
     RunsCommand (Some SmackLoad) = RunsLoad said ending disk disk_after
-    RunsCommand (Some (SmackAccess subject object asked)) = RunsAccess subject object asked said ending source source_after
+    RunsCommand (Some (SmackAccess subject object asked)) =
+        RunsAccess subject object asked said ending source source_after
     RunsCommand (Some (Sample count)) = RunsSample count said ending
     RunsCommand (Some (Serve workers)) = (said ≡ silence) × Serves workers disk disk_after net net_after ending
     -- how it serves is told with what it writes
@@ -124,7 +133,8 @@ module _ {N L H E A J : Type 0} (dial : DialTells N L H) (link : LinkTells L H) 
     RunsCommand (Some (Simple asked)) = RunsCheck dial link asked true said ending net net_after
     RunsCommand (Some Admin) =
         RunsAdmin link.faults link.marks link.traffic dial.faults dial.dials dial.given_back said ending source source_after net net_after
-    RunsCommand (Some (Agent kind allowed)) = RunsAgent kind allowed said ending (dial_seen dial link net) (dial_seen dial link net_after)
+    RunsCommand (Some (Agent kind allowed)) =
+        RunsAgent kind allowed said ending (dial_seen dial link net) (dial_seen dial link net_after)
 
   -- ---- what is written
 
@@ -142,7 +152,8 @@ module _ {N L H E A J : Type 0} (dial : DialTells N L H) (link : LinkTells L H) 
 
     -- and with it
     abbrev pub WritesBy : Said → Option Command → SinkSeen → SinkSeen → Type 0
-    WritesBy said (Some (Watch workers)) before after = (between : SinkSeen) × Watches workers before between × WritesLast ending between after
+    WritesBy said (Some (Watch workers)) before after =
+        (between : SinkSeen) × Watches workers before between × WritesLast ending between after
     WritesBy said command before after = Writes ending said before after
 
   -- How a run ends, with the words' command and a status.

@@ -31,14 +31,14 @@ use std::thread::Threads;
 use std::time::Clock;
 use watch_runs::run_watch;
 
-/// Runs the command that the words name, writes the last line that belongs to the way in which the run ends, and answers
-/// the status.
+/// Runs the command that the words name, writes the last line that belongs to the way in which the run ends, and
+/// answers the status.
 ///
-/// Status 0: the command did its work; 1: out of memory; 2: the words are no command; 3: a line is outside its
-/// grammar; 4: the source failed; 5: the sink failed; 6: the disk failed; 7: the net failed; 8: the folder stands for no
-/// policy state; 9: what a peer replied is no reply; 10: a step of a script wanted a frame past the limit. The first to
-/// happen decides, but for a service, which goes on behind a call that failed. Words that are no command leave the source,
-/// the disk and the net as they were; memory may run out in reading them, but where one begins with `-`. `is_typed` says
+/// Status 0: the command did its work; 1: out of memory; 2: the words are no command; 3: a line is outside its grammar;
+/// 4: the source failed; 5: the sink failed; 6: the disk failed; 7: the net failed; 8: the folder stands for no policy
+/// state; 9: what a peer replied is no reply; 10: a step of a script wanted a frame past the limit. The first to happen
+/// decides, but for a service, which goes on behind a call that failed. Words that are no command leave the source, the
+/// disk and the net as they were; memory may run out in reading them, but where one begins with `-`. `is_typed` says
 /// whether a person types what the source gives, who is then told what is read. It may wait.
 pub fn run<
     R: Threads + Wait + Clock + Sync,
@@ -167,8 +167,8 @@ fn greet<T: Notes>(is_typed: bool, line: &str, notes: &T) {
     }
 }
 
-/// Runs the program with the words of a host, and answers the status. Where there is no memory for the words it is 1, and
-/// nothing is read, written, mounted, dialled or served. It may wait.
+/// Runs the program with the words of a host, and answers the status. Where there is no memory for the words it is 1,
+/// and nothing is read, written, mounted, dialled or served. It may wait.
 pub fn run_on<
     E: Env,
     R: Threads + Wait + Clock + Sync,
@@ -200,7 +200,8 @@ where
         × Ends N.Dial N.Link.Link N.closed N.Door.Door N.Door.Link.Link (command_of words) result
         (seen_of S.Source K.Sink D.Disk N.Dial source.old sink.old disk.old net.old)
         (seen_of S.Source K.Sink D.Disk N.Dial source.new sink.new disk.new net.new) net.old net.new)
-        ⊎ ((result ≡ 1) × (source.new ≡ source.old) × (sink.new ≡ sink.old) × (disk.new ≡ disk.old) × (net.new ≡ net.old)) }
+        ⊎ ((result ≡ 1) × (source.new ≡ source.old) × (sink.new ≡ sink.old) × (disk.new ≡ disk.old)
+        × (net.new ≡ net.old)) }
 {
     match host_words(host, alloc) {
         Ok(words) => run(

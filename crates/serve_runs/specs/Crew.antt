@@ -60,15 +60,17 @@ is_alone end = false
 abbrev pub is_deserted : List WorkerEnd → Bool
 is_deserted ends = list_any is_alone ends
 
--- By the seat in what a worker of clients hands on from one connection to the next, and by what serving a connection makes of that.
+-- By the seat in what a worker of clients hands on from one connection to the next, and by what serving a connection
+-- makes of that.
 module _ {S L E : Type 0} (seat_of : S → SeatState) (visits : S → Visit L → S → Type 0)
     (traffic : L → Option Traffic) (marks : L → LinkMarks) (faults : L → ℕ)
     (given_back : E → Option (List L)) (door_faults : E → ℕ) (kind : E → Option DoorKind) (published : List DeskState)
     (events : List Event) where
-  -- The connections that a worker of this post served, one after the other, over links that its door gave it: of each `visits`
-  -- says what it was answered, at which states of those that its seat had seen by then, and where it entered in what its seat then
-  -- knew of the roll's log; or `VisitsAgents` what it was asked. What the seat has seen in all begins the list of states that all
-  -- workers share, and what it knows of the roll's log begins the log that all share.
+  -- The connections that a worker of this post served, one after the other, over links that its door gave it: of each
+  -- `visits` says what it was answered, at which states of those that its seat had seen by then, and where it entered
+  -- in what its seat then knew of the roll's log; or `VisitsAgents` what it was asked. What the seat has seen in all
+  -- begins the list of states that all workers share, and what it knows of the roll's log begins the log that all
+  -- share.
   abbrev pub WorksFor : Option S → Option S → WorkerEnd → StopsTold → Option (List L) → E → Type 0
   WorksFor (Some start) (Some now) end told given door = GoesOn (seat_of now).seen published
       × IsPrefix (seat_of now).events events
@@ -78,8 +80,8 @@ module _ {S L E : Type 0} (seat_of : S → SeatState) (visits : S → Visit L �
   WorksFor (Some start) None end told given door = ⊥
   WorksFor None (Some now) end told given door = ⊥
 
-  -- A worker of this post served at a door of its kind, to which no link had been given back, and has ended. Where it was unstarted it
-  -- served nobody.
+  -- A worker of this post served at a door of its kind, to which no link had been given back, and has ended. Where it
+  -- was unstarted it served nobody.
   pub record Serves (post : Option S) (worker : EndedWorker S E) : Type 0 where
     pub told : StopsTold
     pub given : Option (List L)

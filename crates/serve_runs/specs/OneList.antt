@@ -26,7 +26,8 @@ AllOfList published (refused refusal ended tally marks faults idle) = Unit {0}
 AllOfList published (served connection) = AllByRecursion (IsOfList published) connection.talks.answered
 
 -- each reply of each connection that a worker served, one after the other
-abbrev pub EachOfList : {L : Type 0} → (traffic : L → Option Traffic) → (marks : L → LinkMarks) → (faults : L → ℕ) → List DeskState
+abbrev pub EachOfList : {L : Type 0} → (traffic : L → Option Traffic) → (marks : L → LinkMarks) → (faults : L → ℕ)
+    → List DeskState
     → (seat : SeatState) → (visits : List (Visit L)) → (seat_now : SeatState)
     → InTurn (VisitsClients traffic marks faults) seat visits seat_now → Type 0
 EachOfList traffic marks faults published seat [] seat_now none = Unit {0}
@@ -35,8 +36,8 @@ EachOfList traffic marks faults published seat (visit ∷ more) seat_now (betwee
 
 -- ---- where its connections entered
 
--- A connection stands in the roll's log as one that entered at this commit. Whoever was disconnected before it was so for a commit no
--- higher, and each of its replies is of a state no older.
+-- A connection stands in the roll's log as one that entered at this commit. Whoever was disconnected before it was so
+-- for a commit no higher, and each of its replies is of a state no older.
 pub record IsEntered (events : List Event) (entered : ℕ) (answered : List Answered) : Type 0 where
   pub front : List Event
   pub back : List Event
@@ -51,7 +52,8 @@ AllEntered events (refused refusal ended tally marks faults idle) = Unit {0}
 AllEntered events (served connection) = IsEntered events connection.entered connection.talks.answered
 
 -- each connection that a worker served, one after the other
-abbrev pub EachEntered : {L : Type 0} → (traffic : L → Option Traffic) → (marks : L → LinkMarks) → (faults : L → ℕ) → List Event
+abbrev pub EachEntered : {L : Type 0} → (traffic : L → Option Traffic) → (marks : L → LinkMarks) → (faults : L → ℕ)
+    → List Event
     → (seat : SeatState) → (visits : List (Visit L)) → (seat_now : SeatState)
     → InTurn (VisitsClients traffic marks faults) seat visits seat_now → Type 0
 EachEntered traffic marks faults events seat [] seat_now none = Unit {0}

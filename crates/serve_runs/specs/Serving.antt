@@ -32,10 +32,10 @@ HasNotRisen before after = after < next_count before
 
 -- ---- endings
 
--- How a run ends whose doors were opened, by how its workers ended and by the counts of the disk and of the net: for want of memory
--- where an `accept` of one of them found none, or one had no thread; and as done only where each of them ended since the service was
--- stopped, the one of administrators behind a `Stop` that was made, and no call of the two failed. Where the service was stopped by no
--- administrator, and for no failing call, it ends for want of memory too.
+-- How a run ends whose doors were opened, by how its workers ended and by the counts of the disk and of the net: for
+-- want of memory where an `accept` of one of them found none, or one had no thread; and as done only where each of them
+-- ended since the service was stopped, the one of administrators behind a `Stop` that was made, and no call of the two
+-- failed. Where the service was stopped by no administrator, and for no failing call, it ends for want of memory too.
 abbrev pub EndsService : Ending → List WorkerEnd → ℕ → ℕ → ℕ → ℕ → Type 0
 EndsService Done ends disk disk_now net net_now =
     AllByRecursion (λ (end : WorkerEnd). end ≡ Stopped) ends × HasNotRisen disk disk_now × HasNotRisen net net_now
@@ -65,21 +65,23 @@ opening desk faults = record { desk = desk; decided = true; published = desk ∷
 
 -- these doors were closed behind those that were closed before, where the net still tells them
 abbrev pub ClosesDoors : {E : Type 0} → Option (List E) → List E → Option (List E) → Type 0
-ClosesDoors {E} old doors new = IfTold new (λ after. (before : List E) × (old ≡ Some before) × (after ≡ before ++ doors))
+ClosesDoors {E} old doors new =
+    IfTold new (λ after. (before : List E) × (old ≡ Some before) × (after ≡ before ++ doors))
 
 -- Where not all doors were opened, those that were are closed again, first that for administrators.
 abbrev pub ClosesOpened : {E : Type 0} → (E → Option DoorKind) → Option (List E) → Option (List E) → Type 0
 ClosesOpened {E} kind closed closed_now = (closed_now ≡ closed)
     ⊎ ((door : E) × (others : List E) × (kind door ≡ Some Admin) × ClosesDoors closed (door ∷ others) closed_now)
 
--- A service served administrators, one connection after the other, each from the state that the one before it left. Beside them
--- workers of clients, which began with these, and nine of agents, served at doors of their own, and all have ended. What each of
--- clients was answered by is a front of `last.published`, the one list of states that administrators made. What happened in the roll,
--- `events`, is one log too, in which nobody who entered behind a disconnect entered below its commit. Each client entered in it: what
--- its seat knew then is a front of the log, and ends with its entry. Of each command that was answered as done a disconnect up to its
--- commit, or a later one, stands in it. A worker that was unstarted served nobody: so it is with that of administrators where not all
--- workers had threads. The service closed all its doors: first that for administrators, and then those of the workers in their order.
--- Each has its links back.
+-- A service served administrators, one connection after the other, each from the state that the one before it left.
+-- Beside them workers of clients, which began with these, and nine of agents, served at doors of their own, and all
+-- have ended. What each of clients was answered by is a front of `last.published`, the one list of states that
+-- administrators made. What happened in the roll, `events`, is one log too, in which nobody who entered behind a
+-- disconnect entered below its commit. Each client entered in it: what its seat knew then is a front of the log, and
+-- ends with its entry. Of each command that was answered as done a disconnect up to its commit, or a later one, stands
+-- in it. A worker that was unstarted served nobody: so it is with that of administrators where not all workers had
+-- threads. The service closed all its doors: first that for administrators, and then those of the workers in their
+-- order. Each has its links back.
 pub record ServesAll {S L E : Type 0} (seat_of : S → SeatState) (visits : S → Visit L → S → Type 0)
     (traffic : L → Option Traffic) (marks : L → LinkMarks) (faults : L → ℕ)
     (given_back : E → Option (List L)) (door_faults : E → ℕ) (kind : E → Option DoorKind) (starts : List S)

@@ -22,9 +22,9 @@ use std::thread;
 use std::thread::{Threads, join_mut};
 use std::time::Clock;
 
-/// Has each worker do its work on a thread of its own, and serves administrators on the calling one. One more thread does the
-/// chore, and wakes all workers that wait at their doors once the service is stopped, so many of clients among them. Returns when
-/// all are done. Where not all threads can be made, nobody is served.
+/// Has each worker do its work on a thread of its own, and serves administrators on the calling one. One more thread
+/// does the chore, and wakes all workers that wait at their doors once the service is stopped, so many of clients among
+/// them. Returns when all are done. Where not all threads can be made, nobody is served.
 pub(crate) fn beside<
     R: Threads + Wait + Clock + Sync,
     K: Send,

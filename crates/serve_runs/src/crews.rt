@@ -1,5 +1,6 @@
 // The workers that run on threads of their own, each at its door.
-ghost use Rattle.std.specs.Prelude.{◌≡◌, ◌+◌, ◌<◌, ◌≤◌, ◌++◌, ◌∷◌, [], length, map, replicate, vec_len, vec_capacity, IfOk, OnOk};
+ghost use Rattle.std.specs.Prelude.{◌≡◌, ◌+◌, ◌<◌, ◌≤◌, ◌++◌, ◌∷◌, [], length, map, replicate, vec_len, vec_capacity};
+ghost use Rattle.std.specs.Prelude.{IfOk, OnOk};
 ghost use Rattle.std.specs.Bool.{OnTrue};
 ghost use mathlib.Core.List.{IsPrefix};
 ghost use Rattle.std.specs.List.{AllByRecursion, list_any};
@@ -22,7 +23,8 @@ use std::alloc::{AllocError, Global};
 use std::sync::{Mutex, Wait};
 use std::time::Clock;
 
-/// How many connections of agents are served at once: one more than there may be agents, so that a further one is heard.
+/// How many connections of agents are served at once: one more than there may be agents, so that a further one is
+/// heard.
 pub const AGENT_WORKERS: u32 = 9;
 
 /// Whom a worker serves.
@@ -142,8 +144,8 @@ impl<J: Naming, D: Door, X: ClientDuty> Worker<J, D, X> {
         }
     }
 
-    /// Serves one connection after the other, once it is decided that there is a service. The last worker of clients that ends
-    /// though the service is not stopped, stops it.
+    /// Serves one connection after the other, once it is decided that there is a service. The last worker of clients
+    /// that ends though the service is not stopped, stops it.
     pub fn work<R: Wait + Clock, G: Gate, T: Notes>(
         &mut self,
         rt: &R,
@@ -297,10 +299,10 @@ pub(crate) fn lacked_memory<J: Naming, D: Door, X: ClientDuty>(crew: &[Worker<J,
     crew.iter().any(|worker| worker.lacked_memory())
 }
 
-/// Compares what the seats of the crew have seen with what was published, and what they and the administrators know of the roll's
-/// log with these events; returns where none has seen or knows more. None can: but that only the publisher puts states into the list,
-/// and only the roll events into the log, is known of their code, and not by a proof. So a run of which that is wrong does not return,
-/// and one that returns has compared.
+/// Compares what the seats of the crew have seen with what was published, and what they and the administrators know of
+/// the roll's log with these events; returns where none has seen or knows more. None can: but that only the publisher
+/// puts states into the list, and only the roll events into the log, is known of their code, and not by a proof. So a
+/// run of which that is wrong does not return, and one that returns has compared.
 pub(crate) fn compare<R: Wait, J: Naming, D: Door, X: ClientDuty>(
     rt: &R,
     publisher: &Publisher<J>,
@@ -318,7 +320,8 @@ pub(crate) fn compare<R: Wait, J: Naming, D: Door, X: ClientDuty>(
     }
 }
 
-// Whether neither the administrators know more than these events, nor a seat, which has seen no more than was published.
+// Whether neither the administrators know more than these events, nor a seat, which has seen no more than was
+// published.
 fn is_one_log<J: Naming, D: Door, X: ClientDuty>(
     publisher: &Publisher<J>,
     events: &Front<Event, Events<J>>,

@@ -1,5 +1,6 @@
 // The doors of a service: opened, knocked at, and closed.
-ghost use Rattle.std.specs.Prelude.{◌≡◌, ◌+◌, ◌<◌, ◌≤◌, ◌++◌, ◌∷◌, [], length, map, vec_len, vec_capacity, Some, IfOk, IfErr, OnOk};
+ghost use Rattle.std.specs.Prelude.{◌≡◌, ◌+◌, ◌<◌, ◌≤◌, ◌++◌, ◌∷◌, [], length, map, vec_len, vec_capacity, Some, IfOk};
+ghost use Rattle.std.specs.Prelude.{IfErr, OnOk};
 ghost use Rattle.std.specs.List.{AllZip, AllByRecursion};
 ghost use Rattle.std.specs.Option.{option_to_list};
 ghost use Rattle.link_ports.specs.Told.{IfTold};
@@ -78,8 +79,8 @@ fn open_one<N: Net, J: Naming, X: ClientDuty>(
     }
 }
 
-/// Knocks once for each worker: for so many of clients, for those of agents, and for that of administrators. None of them waits
-/// at its door then.
+/// Knocks once for each worker: for so many of clients, for those of agents, and for that of administrators. None of
+/// them waits at its door then.
 pub(crate) fn knock_all<N: Net>(net: &mut N, clients: u32)
     ensures { Knocks N.faults N.closed net.old net.new }
 {
@@ -97,7 +98,8 @@ fn knock<N: Net>(net: &mut N, kind: DoorKind, times: u32)
     }
 }
 
-/// Closes the doors of the crew, in turn, and hands back what its workers of clients do beside. The list has room for that.
+/// Closes the doors of the crew, in turn, and hands back what its workers of clients do beside. The list has room for
+/// that.
 #[tactic(auto, using(crate::proofs::Closing::closes_none))]
 pub(crate) fn close_doors<N: Net, J: Naming, X: ClientDuty>(
     net: &mut N,

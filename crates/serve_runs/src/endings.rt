@@ -8,9 +8,9 @@ ghost use Rattle.serve_runs.specs.parts.Officiating.{EndsBy};
 use desk_server::WorkerEnd;
 use run_endings::Ending;
 
-/// By what was met, and by the counts of the disk and of the net before and now: want of memory or of a thread comes first, and
-/// then the disk. Where the service was stopped by no administrator, a worker ended for a failing call or for want of memory; it is
-/// never done.
+/// By what was met, and by the counts of the disk and of the net before and now: want of memory or of a thread comes
+/// first, and then the disk. Where the service was stopped by no administrator, a worker ended for a failing call or
+/// for want of memory; it is never done.
 pub(crate) fn ending_of(
     lacked_memory: bool,
     alone: bool,

@@ -1,8 +1,10 @@
-//! `serve W`: the service of a device over its folder, with a worker on a thread of its own for each of W connections of
-//! clients and for each of nine of agents. The calling thread serves the administrators, one more thread wakes all others once
-//! the service is stopped, and each way out ends all of it. Where not all threads can be made, nobody is served.
+//! `serve W`: the service of a device over its folder, with a worker on a thread of its own for each of W connections
+//! of clients and for each of nine of agents. The calling thread serves the administrators, one more thread wakes all
+//! others once the service is stopped, and each way out ends all of it. Where not all threads can be made, nobody is
+//! served.
 //!
-//! `run_service` is the same service with something done beside: by each worker of clients, and in turns by that one thread.
+//! `run_service` is the same service with something done beside: by each worker of clients, and in turns by that one
+//! thread.
 #![tactic(auto)]
 
 mod beside;

@@ -25,10 +25,11 @@ use std::time::Clock;
 /// How many workers of clients there may be.
 pub const MOST_CLIENT_WORKERS: u32 = 64;
 
-/// Mounts the folder, and serves clients by so many workers, agents and administrators, until an administrator stops the
-/// service, or the administrators' door fails, or that of each worker of clients. All threads have ended then, and all doors are
-/// closed. Where an `accept` found no memory it ends for that, else where the disk failed for that, and else where the net did.
-/// Where not all threads can be made nobody is served, and it ends for want of memory. It may wait.
+/// Mounts the folder, and serves clients by so many workers, agents and administrators, until an administrator stops
+/// the service, or the administrators' door fails, or that of each worker of clients. All threads have ended then, and
+/// all doors are closed. Where an `accept` found no memory it ends for that, else where the disk failed for that, and
+/// else where the net did. Where not all threads can be made nobody is served, and it ends for want of memory. It may
+/// wait.
 pub fn run_serve<
     R: Threads + Wait + Clock + Sync,
     D: Disk,
@@ -78,15 +79,16 @@ fn unrecorded(alloc: Global, workers: u32) -> Result<Vec<Unrecorded>, AllocError
     Ok(duties)
 }
 
-/// How a service ended; and what has become of what its workers of clients did beside, in their order, where there was a service.
+/// How a service ended; and what has become of what its workers of clients did beside, in their order, where there was
+/// a service.
 #[derive(Drop)]
 pub struct ServiceRun<X: Drop> {
     pub ending: Ending,
     pub duties: Option<Vec<X>>,
 }
 
-/// Serves as `run_serve` does, by a worker of clients for each of these duties, which does that beside answering, and does the
-/// chore in turns meanwhile, on one more thread, which the alarm wakes. It may wait.
+/// Serves as `run_serve` does, by a worker of clients for each of these duties, which does that beside answering, and
+/// does the chore in turns meanwhile, on one more thread, which the alarm wakes. It may wait.
 pub fn run_service<
     R: Threads + Wait + Clock + Sync,
     D: Disk,

@@ -1,5 +1,6 @@
 // The service, once the folder is mounted.
-ghost use Rattle.std.specs.Prelude.{◌≡◌, ◌+◌, ◌<◌, ◌≤◌, ◌∷◌, [], ℕ, length, map, vec_len, vec_capacity, MatchResult, OnErr, OnOk};
+ghost use Rattle.std.specs.Prelude.{◌≡◌, ◌+◌, ◌<◌, ◌≤◌, ◌∷◌, [], ℕ, length, map, vec_len, vec_capacity, MatchResult};
+ghost use Rattle.std.specs.Prelude.{OnErr, OnOk};
 ghost use Rattle.std.specs.List.{AllZip};
 ghost use Rattle.desk_keeper.specs.Keeper.{IsSameDisk};
 ghost use Rattle.state_list.specs.Opening.{book_of};
@@ -34,8 +35,8 @@ use std::sync::{Mutex, Wait};
 use std::thread::Threads;
 use std::time::Clock;
 
-/// What a service met: whether memory or a thread was wanting, and whether no administrator stopped it; and what has become of
-/// what the workers of clients did beside.
+/// What a service met: whether memory or a thread was wanting, and whether no administrator stopped it; and what has
+/// become of what the workers of clients did beside.
 #[derive(Drop)]
 pub(crate) struct Met<X: Drop> {
     pub lacked_memory: bool,
@@ -43,9 +44,9 @@ pub(crate) struct Met<X: Drop> {
     pub duties: Vec<X>,
 }
 
-/// Serves over the folder of the keeper, by a worker of clients for each of these duties, until the service is stopped, and
-/// does the chore in turns meanwhile. What was met, or why nobody was served. The list of published states and the log of the roll
-/// are opened here.
+/// Serves over the folder of the keeper, by a worker of clients for each of these duties, until the service is stopped,
+/// and does the chore in turns meanwhile. What was met, or why nobody was served. The list of published states and the
+/// log of the roll are opened here.
 pub(crate) fn serve_folder<
     R: Threads + Wait + Clock + Sync,
     D: Disk,
@@ -104,7 +105,8 @@ where
     )
 }
 
-// The same. The published states are the first list, and what happens in the roll is the second, which have no entries yet.
+// The same. The published states are the first list, and what happens in the roll is the second, which have no entries
+// yet.
 fn serve_named<
     J: Naming + Send + Sync,
     R: Threads + Wait + Clock + Sync,
@@ -243,7 +245,8 @@ where
     )
 }
 
-// Opens the doors, serves, and closes them. The list of the crew, and that of what its workers of clients do beside, have room.
+// Opens the doors, serves, and closes them. The list of the crew, and that of what its workers of clients do beside,
+// have room.
 fn open_and_serve<
     R: Threads + Wait + Clock + Sync,
     J: Naming + Send + Sync,
@@ -318,8 +321,8 @@ where
     })
 }
 
-// Serves at open doors: the crew on threads, and the administrators on this one. How their worker ended, and what happened in the
-// roll.
+// Serves at open doors: the crew on threads, and the administrators on this one. How their worker ended, and what
+// happened in the roll.
 fn serve<
     R: Threads + Wait + Clock + Sync,
     J: Naming + Send + Sync,

@@ -1,4 +1,5 @@
-// What one thread of a service does beside its workers: it does the chore, and wakes all workers once the service is stopped.
+// What one thread of a service does beside its workers: it does the chore, and wakes all workers once the service is
+// stopped.
 ghost use Rattle.std.specs.Prelude.{◌≤◌, ℕ};
 ghost use Rattle.serve_runs.specs.parts.Officiating.{Knocks};
 
@@ -18,8 +19,8 @@ const TICK: u64 = 100;
 /// How long it lets work gather behind a turn that did some, in milliseconds.
 const PAUSE: u64 = 1;
 
-/// Does the chore in turns until the service is stopped, and then wakes all workers that wait at their doors, so many of clients
-/// among them. Where there is no service it does nothing. It may wait.
+/// Does the chore in turns until the service is stopped, and then wakes all workers that wait at their doors, so many
+/// of clients among them. Where there is no service it does nothing. It may wait.
 pub(crate) fn keep_watch<R: Wait + Clock, N: Net, C: Chore>(
     rt: &R,
     clients: u32,

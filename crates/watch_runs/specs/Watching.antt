@@ -1,5 +1,5 @@
--- What a run of `watch W` does beside serving: it writes of each check that was answered by the policies a line, in the order in
--- which they were handed out, and at the end for each worker how many of its checks were missed.
+-- What a run of `watch W` does beside serving: it writes of each check that was answered by the policies a line, in the
+-- order in which they were handed out, and at the end for each worker how many of its checks were missed.
 use Rattle.std.specs.Prelude.{◌≡◌, ℕ, zero, suc, List, [], ◌∷◌, ◌++◌, map, Option, Some, None}
 use Rattle.atomic_table.specs.Seated.{TableId}
 use Rattle.desk_ports.specs.Content.{Appended}
@@ -23,7 +23,8 @@ use Rattle.serve_runs.specs.Run.{RunsServe}
 
 -- ---- endings
 
--- how a run ends whose service ended so, by how the writing stands: where the work was done and a call of the sink failed, for that
+-- how a run ends whose service ended so, by how the writing stands: where the work was done and a call of the sink
+-- failed, for that
 abbrev pub ending_with : Ending → Writing → Ending
 ending_with Done SinkFailed = Sink
 ending_with Done OutOfMemory = Memory
@@ -31,8 +32,8 @@ ending_with met writing = met
 
 -- ---- lines
 
--- What so many workers of clients begin with: each with the seat and the recorder of its number. A seat has seen no state, and a
--- recorder put nothing. The queue has room for 4,096 entries.
+-- What so many workers of clients begin with: each with the seat and the recorder of its number. A seat has seen no
+-- state, and a recorder put nothing. The queue has room for 4,096 entries.
 abbrev pub new_posts : TableId → ℕ → List Post
 new_posts queue zero = []
 new_posts queue (suc count) = new_posts queue count ++ post_of (new_seat count) (new_recorder_of queue 4096 count) ∷ []
@@ -40,9 +41,9 @@ new_posts queue (suc count) = new_posts queue count ++ post_of (new_seat count) 
 abbrev pub recorders_of : List Post → List RecorderState
 recorders_of posts = map (λ (post : Post). post.recorder) posts
 
--- What the sink was to take: nothing where nobody was served. Else a line for each entry, which are for each worker all that its recorder
--- put, in its order, and none of any other worker; and then for each worker the count of its checks that were missed. Where the writing
--- still goes on, the sink took all of it, and else a front of it.
+-- What the sink was to take: nothing where nobody was served. Else a line for each entry, which are for each worker all
+-- that its recorder put, in its order, and none of any other worker; and then for each worker the count of its checks
+-- that were missed. Where the writing still goes on, the sink took all of it, and else a front of it.
 pub data Journaled (workers : ℕ) (left : Option (List Post)) (writing : Writing) (before after : SinkSeen) : Type 0 where
   unserved : left ≡ None → writing ≡ GoesOn → after ≡ before → Journaled workers left writing before after
   journaled : (entries : List Entry) → (posts : List Post) → left ≡ Some posts → AreWhole entries (recorders_of posts)
@@ -54,9 +55,10 @@ pub data Journaled (workers : ℕ) (left : Option (List Post)) (writing : Writin
 
 module _ {L E : Type 0} (traffic : L → Option Traffic) (marks : L → LinkMarks) (faults : L → ℕ)
     (given_back : E → Option (List L)) (door_faults : E → ℕ) (kind : E → Option DoorKind) (workers : ℕ) where
-  -- A service by so many workers of clients, each of which had its checks recorded by the recorder of its number, ended so; and the lines
-  -- of what these recorders put in all were to be written.
-  abbrev pub RunsWatch : Ending → DiskSeen → DiskSeen → ℕ → ℕ → Option (List E) → Option (List E) → SinkSeen → SinkSeen → Type 0
+  -- A service by so many workers of clients, each of which had its checks recorded by the recorder of its number, ended
+  -- so; and the lines of what these recorders put in all were to be written.
+  abbrev pub RunsWatch : Ending → DiskSeen → DiskSeen → ℕ → ℕ → Option (List E) → Option (List E) → SinkSeen → SinkSeen
+      → Type 0
   RunsWatch ending disk disk_now net net_now closed closed_now sink sink_now =
       (met : Ending) × (writing : Writing) × (queue : TableId) × (left : Option (List Post))
       × RunsServe (λ (post : Post). post.seat) (VisitsWatched traffic marks faults) traffic marks faults given_back door_faults kind
@@ -66,7 +68,8 @@ module _ {L E : Type 0} (traffic : L → Option Traffic) (marks : L → LinkMark
 
 -- ---- what a run writes
 
--- What the sink took of the lines of a run that ends so. The service itself is given no sink, so it does not end for one.
+-- What the sink took of the lines of a run that ends so. The service itself is given no sink, so it does not end for
+-- one.
 abbrev pub WritesLines : ℕ → Ending → SinkSeen → SinkSeen → Type 0
 WritesLines workers ending before after = (met : Ending) × (writing : Writing) × (left : Option (List Post))
     × (ending ≡ ending_with met writing) × (met ≡ Sink → ⊥) × Journaled workers left writing before after

@@ -14,8 +14,8 @@ use std::time::Clock;
 /// Behind a turn that wrote so many bytes more lines may wait than one turn writes.
 const MUCH: usize = 16_384;
 
-/// The reader of what was recorded, how the writing stands, the sink that takes the lines, room for them, and whom a person
-/// is told by that no further line is written.
+/// The reader of what was recorded, how the writing stands, the sink that takes the lines, room for them, and whom a
+/// person is told by that no further line is written.
 #[derive(Drop)]
 pub(crate) struct Journal<'k, K: Sink, T: Notes> {
     pub reader: Reader,

@@ -12,8 +12,8 @@ const MOST_MILLIS: u128 = 18_446_744_073_709_551_615;
 /// The least time between two lines, in milliseconds.
 const APART: u64 = 1_000;
 
-/// The gate of the workers of clients, at which a worker also tells of checks that were missed. So a person is told while the
-/// thread that writes the lines waits for standard output.
+/// The gate of the workers of clients, at which a worker also tells of checks that were missed. So a person is told
+/// while the thread that writes the lines waits for standard output.
 #[derive(Drop)]
 pub(crate) struct TellingGate<'a, R: Clock, G: Gate, T: Notes> {
     rt: &'a R,

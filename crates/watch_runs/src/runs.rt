@@ -26,10 +26,10 @@ use std::sync::Wait;
 use std::thread::Threads;
 use std::time::Clock;
 
-/// Serves as `run_serve` does, and has the sink take a line for each check that a worker answered by the policies: each as it
-/// comes, and at the end those that are left and for each worker the count of its checks that were missed, since 4,096 lines
-/// waited. After a call of the sink has failed nothing further is written; the
-/// service goes on, and ends for that where it would have been done. It may wait.
+/// Serves as `run_serve` does, and has the sink take a line for each check that a worker answered by the policies: each
+/// as it comes, and at the end those that are left and for each worker the count of its checks that were missed, since
+/// 4,096 lines waited. After a call of the sink has failed nothing further is written; the service goes on, and ends
+/// for that where it would have been done. It may wait.
 pub fn run_watch<
     R: Threads + Wait + Clock + Sync,
     D: Disk,

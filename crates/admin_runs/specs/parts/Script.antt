@@ -10,7 +10,8 @@ use Rattle.run_endings.specs.declared.endings.Ending.TheVariants.{Line}
 use Rattle.admin_runs.specs.AdminRun.{HasRead, messages_of}
 
 -- These steps were read of the input, and their messages were due.
-pub record SendsAll (Talks : List Message → Ending → Type 0) (left left_after : Option (List ℕ)) (ending : Ending) : Type 0 where
+pub record SendsAll (Talks : List Message → Ending → Type 0) (left left_after : Option (List ℕ))
+    (ending : Ending) : Type 0 where
   pub input : List ℕ
   pub rest : List ℕ
   pub steps : List Step

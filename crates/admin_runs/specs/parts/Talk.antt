@@ -39,7 +39,8 @@ module _ {N L : Type 0} (link_faults : L → ℕ) (marks : L → LinkMarks) (tra
     (faults dials : N → ℕ) (given_back : N → Option (List L)) where
   -- These messages were due; each was sent once and answered, in order, but for a last one where the run ends so. The
   -- answers are written, each before the next message was sent.
-  pub record Talks (old new : State N L) (before after : SinkSeen) (messages : List Message) (ending : Ending) : Type 0 where
+  pub record Talks (old new : State N L) (before after : SinkSeen) (messages : List Message)
+      (ending : Ending) : Type 0 where
     pub said : Said
     pub answered : List Exchange
     pub last : List Message

@@ -43,7 +43,8 @@ module _ {D L : Type 0} (faults : D → ℕ) (state : D → Option DiskState) (m
   abbrev pub HoldsOffice : Keeper D → Office → Option (List L) → ℕ → StopsTold → Keeper D → List DeskState
       → Option (List L) → ℕ
       → StopsTold → List Event → Type 0
-  HoldsOffice first start given count told keeper published given_now count_now told_now hangs = (frames : List Exchange)
+  HoldsOffice first start given count told keeper published given_now count_now told_now hangs =
+      (frames : List Exchange)
       × SoFar (VisitsOffice traffic marks link_faults) (GoesOnTold told told_now) marks link_faults start
       (office_of faults keeper published frames)
       given given_now count count_now
@@ -52,7 +53,8 @@ module _ {D L : Type 0} (faults : D → ℕ) (state : D → Option DiskState) (m
   -- the same, and it has ended so
   abbrev pub EndsHolding : WorkerEnd → Keeper D → Office → Option (List L) → ℕ → StopsTold → Keeper D → List DeskState
       → Option (List L) → ℕ → StopsTold → List Event → Type 0
-  EndsHolding end first start given count told keeper published given_now count_now told_now hangs = (frames : List Exchange)
+  EndsHolding end first start given count told keeper published given_now count_now told_now hangs =
+      (frames : List Exchange)
       × Works (VisitsOffice traffic marks link_faults) (EndsOffice told told_now) marks link_faults end start
       (office_of faults keeper published frames) given given_now count count_now
       × RunsOver state moment left_since first keeper frames × AreHung hangs frames

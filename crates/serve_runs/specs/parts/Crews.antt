@@ -1,4 +1,5 @@
--- The workers of clients and of agents: at their stations, at doors that were opened for them, and once they have ended.
+-- The workers of clients and of agents: at their stations, at doors that were opened for them, and once they have
+-- ended.
 use denote.Ref.{MutBor}
 use denote.Param.Members.{Shared}
 use Rattle.std.specs.Prelude.{◌≡◌, ℕ, Bool, false, List, [], ◌∷◌, ◌++◌, map, replicate, Option, Some, None}
@@ -77,7 +78,8 @@ lacked None = false
 abbrev pub worker_lacked : {J E X : Type 0} → Worker J E X → Bool
 worker_lacked worker = lacked worker.end
 
--- what the seat has seen, where there is one, begins the states that were published, and what it knows of the roll these events
+-- what the seat has seen, where there is one, begins the states that were published, and what it knows of the roll
+-- these events
 abbrev pub HasSeenOf : List DeskState → List Event → Option SeatState → Type 0
 HasSeenOf published events (Some seat) = GoesOn seat.seen published × IsPrefix seat.events events
 HasSeenOf published events None = Unit {0}
@@ -91,7 +93,8 @@ abbrev pub CountsDoor : ℕ → ℕ → ℕ → Type 0
 CountsDoor door_faults before after = door_faults ≡ next_count 0 → HasRisen before after
 
 -- a worker of this station stands at a door that was just opened for it
-pub record StandsAt {L J E X : Type 0} (given_back : E → Option (List L)) (door_faults : E → ℕ) (kind : E → Option DoorKind)
+pub record StandsAt {L J E X : Type 0} (given_back : E → Option (List L)) (door_faults : E → ℕ)
+    (kind : E → Option DoorKind)
     (station : Station J X) (worker : Worker J E X) : Type 0 where
   pub station_is : worker.station ≡ station
   pub fresh : door_faults worker.door ≡ 0
@@ -99,7 +102,8 @@ pub record StandsAt {L J E X : Type 0} (given_back : E → Option (List L)) (doo
   pub is_theirs : kind worker.door ≡ Some (kind_for (seat_at station))
 
 module _ {S L J E X : Type 0} (state : SeatState → X → S) (visits : S → Visit L → S → Type 0)
-    (traffic : L → Option Traffic) (marks : L → LinkMarks) (faults : L → ℕ) (given_back : E → Option (List L)) (door_faults : E → ℕ) where
+    (traffic : L → Option Traffic) (marks : L → LinkMarks) (faults : L → ℕ) (given_back : E
+    → Option (List L)) (door_faults : E → ℕ) where
   -- what a worker did at its station and its door
   abbrev pub WorksAt : WorkerEnd → Station J X → Station J X → E → E → StopsTold → StopsTold → Type 0
   WorksAt end (Clients seat duty) (Clients seat_now duty_now) door door_now told told_now =
@@ -120,6 +124,7 @@ module _ {S L J E X : Type 0} (state : SeatState → X → S) (visits : S → Vi
     pub same_kind : kind worker_now.door ≡ kind worker.door
 
 -- Each worker is what a call left of it.
-pub record HaveWorked {F K : Type 0} (calls : Shared F (ℕ × (MutBor K × Unit {0})) ((Unit {0}) × (MutBor K × Unit {0}))) (each : F)
+pub record HaveWorked {F K : Type 0}
+    (calls : Shared F (ℕ × (MutBor K × Unit {0})) ((Unit {0}) × (MutBor K × Unit {0}))) (each : F)
     (old new : List K) : Type 0 where
   pub changes : ChangesEach calls each old new

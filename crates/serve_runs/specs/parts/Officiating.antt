@@ -49,9 +49,10 @@ pub record Officiates {D L E : Type 0} (disk_faults : D → ℕ) (state : D → 
   pub same_disk : IsSameDisk keeper keeper_now
   pub same_kind : kind door_now ≡ kind door
 
--- What a service did between its opening and its end, by workers of these posts, whose duties have become these: whether memory or a
--- thread was wanting, whether it was stopped by no administrator, and the rest as of `ServesAll`.
-pub record Staffs {S D L E X : Type 0} (state_of : SeatState → X → S) (seat_of : S → SeatState) (visits : S → Visit L → S → Type 0)
+-- What a service did between its opening and its end, by workers of these posts, whose duties have become these:
+-- whether memory or a thread was wanting, whether it was stopped by no administrator, and the rest as of `ServesAll`.
+pub record Staffs {S D L E X : Type 0} (state_of : SeatState → X → S) (seat_of : S → SeatState)
+    (visits : S → Visit L → S → Type 0)
     (disk_faults : D → ℕ) (state : D → Option DiskState) (moment : D → ℕ)
     (left_since : D → ℕ → FileMap → Type 0) (traffic : L → Option Traffic) (marks : L → LinkMarks)
     (faults : L → ℕ) (given_back : E → Option (List L)) (door_faults : E → ℕ) (kind : E → Option DoorKind)
