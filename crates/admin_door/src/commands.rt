@@ -67,7 +67,8 @@ pub fn answer_command<R: Wait, D: Disk, J: Naming, A: Hall<List = J>, P: KeptPub
         (side_of D.faults keeper.old (P.states publisher.old) (A.tally hall.old) (A.calls hall.old))
         (side_of D.faults keeper.new (P.states publisher.new) (A.tally hall.new) (A.calls hall.new)) }
     ensures acknowledged { IfOk result (λ replies. Acknowledges message.now
-        (side_of D.faults keeper.new (P.states publisher.new) (A.tally hall.new) (A.calls hall.new)) hangs.new replies.items) }
+        (side_of D.faults keeper.new (P.states publisher.new) (A.tally hall.new)
+        (A.calls hall.new)) hangs.new replies.items) }
     ensures service { IfOk result (λ replies. TellsService message.now (A.told hall.old) replies.items) }
 
     // What a stop at any moment of the call may leave in the folder, and what the folder keeps behind the call.

@@ -44,7 +44,8 @@ pub trait KeptPublisher<D: Disk, J: Naming> {
         requires newer { last_commit 0 (states self.old) < keeper.now.desk.commit }
         ensures shown { MatchResult result
             (λ _. side_of D.faults keeper.now (states self.new) (A.tally hall.new) (A.calls hall.new)
-            ≡ with_shown keeper.now.desk (side_of D.faults keeper.now (states self.old) (A.tally hall.old) (A.calls hall.old)))
+            ≡ with_shown keeper.now.desk (side_of D.faults keeper.now (states self.old) (A.tally hall.old)
+            (A.calls hall.old)))
             (λ _. side_of D.faults keeper.now (states self.new) (A.tally hall.new) (A.calls hall.new)
             ≡ side_of D.faults keeper.now (states self.old) (A.tally hall.old) (A.calls hall.old)) }
         ensures even { OnOk result (last_commit 0 (states self.new) ≡ keeper.now.desk.commit) }

@@ -43,7 +43,8 @@ pub trait ClientDuty: Drop {
         gate: &G,
         news: &mut StopNews,
     ) -> WorkerEnd
-        ensures worked { Works (visits L.traffic L.marks L.faults) (EndsWorking news.old news.new) L.marks L.faults result
+        ensures worked { Works (visits L.traffic L.marks L.faults)
+            (EndsWorking news.old news.new) L.marks L.faults result
             (state seat.old self.old) (state seat.new self.new)
             (D.given_back door.old) (D.given_back door.new) (D.faults door.old) (D.faults door.new) }
         ensures kind { D.kind door.new ≡ D.kind door.old };

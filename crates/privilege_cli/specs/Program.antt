@@ -117,7 +117,8 @@ module _ {N L H E A J : Type 0} (dial : DialTells N L H) (link : LinkTells L H) 
       RunsPlain accepted.traffic accepted.marks accepted.faults door.given_back door.faults door.kind workers ending disk disk_after
       (dial.faults net) (dial.faults net_after) (closed net) (closed net_after)
 
-  module _ (said : Said) (ending : Ending) (source source_after : SourceSeen) (disk disk_after : DiskSeen) (net net_after : N) where
+  module _ (said : Said) (ending : Ending) (source source_after : SourceSeen) (disk disk_after : DiskSeen)
+      (net net_after : N) where
     -- what the command that words name says, and how it ends, over a source, a disk and a net before and after
     abbrev pub RunsCommand : Option Command → Type 0
     RunsCommand None = IsWordless ending × (said ≡ silence)

@@ -112,11 +112,14 @@ where
     ensures run { (said : Said)
         × RunsCommand N.Dial N.Link.Link N.closed N.Door.Door N.Door.Link.Link said result
         (source_seen S.left S.faults source.old) (source_seen S.left S.faults source.new)
-        (disk_seen D.state D.moment D.left_since D.faults disk.old) (disk_seen D.state D.moment D.left_since D.faults disk.new)
+        (disk_seen D.state D.moment D.left_since D.faults disk.old)
+        (disk_seen D.state D.moment D.left_since D.faults disk.new)
         net.old net.new (command_of words.now)
         × AnswersBy N.Dial N.Link.Link N.closed N.Door.Door N.Door.Link.Link result
-        (disk_seen D.state D.moment D.left_since D.faults disk.old) (disk_seen D.state D.moment D.left_since D.faults disk.new)
-        net.old net.new said (command_of words.now) (sink_seen K.taken K.faults sink.old) (sink_seen K.taken K.faults sink.new) }
+        (disk_seen D.state D.moment D.left_since D.faults disk.old)
+        (disk_seen D.state D.moment D.left_since D.faults disk.new)
+        net.old net.new said (command_of words.now) (sink_seen K.taken K.faults sink.old)
+        (sink_seen K.taken K.faults sink.new) }
     ensures option { list_any is_option words.now ≡ true → result ≡ Words }
     ensures source_count { S.faults source.new ≡ source_faults_after result (S.faults source.old) }
     ensures disk_count { CountsDisk (command_of words.now) result (D.faults disk.old) (D.faults disk.new) }

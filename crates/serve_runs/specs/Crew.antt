@@ -76,7 +76,8 @@ module _ {S L E : Type 0} (seat_of : S → SeatState) (visits : S → Visit L �
       × IsPrefix (seat_of now).events events
       × Works visits (EndsWorking unasked told) marks faults end start now given (given_back door) 0 (door_faults door)
   WorksFor None None end told given door =
-      Works (VisitsAgents traffic marks faults) (EndsWorking unasked told) marks faults end tt tt given (given_back door) 0 (door_faults door)
+      Works (VisitsAgents traffic marks faults) (EndsWorking unasked told) marks faults end tt tt given
+      (given_back door) 0 (door_faults door)
   WorksFor (Some start) None end told given door = ⊥
   WorksFor None (Some now) end told given door = ⊥
 

@@ -31,7 +31,8 @@ abbrev pub EachOfList : {L : Type 0} → (traffic : L → Option Traffic) → (m
     → (seat : SeatState) → (visits : List (Visit L)) → (seat_now : SeatState)
     → InTurn (VisitsClients traffic marks faults) seat visits seat_now → Type 0
 EachOfList traffic marks faults published seat [] seat_now none = Unit {0}
-EachOfList traffic marks faults published seat (visit ∷ more) seat_now (between, (silent, (tally, calls, serves)), rest) =
+EachOfList traffic marks faults published seat (visit ∷ more) seat_now
+    (between, (silent, (tally, calls, serves)), rest) =
     AllOfList published serves × EachOfList traffic marks faults published between more seat_now rest
 
 -- ---- where its connections entered

@@ -85,7 +85,8 @@ ClosesOpened {E} kind closed closed_now = (closed_now ≡ closed)
 pub record ServesAll {S L E : Type 0} (seat_of : S → SeatState) (visits : S → Visit L → S → Type 0)
     (traffic : L → Option Traffic) (marks : L → LinkMarks) (faults : L → ℕ)
     (given_back : E → Option (List L)) (door_faults : E → ℕ) (kind : E → Option DoorKind) (starts : List S)
-    (ending : Ending) (start : DeskState) (disk disk_now net net_now : ℕ) (closed closed_now : Option (List E)) : Type 0 where
+    (ending : Ending) (start : DeskState) (disk disk_now net net_now : ℕ)
+    (closed closed_now : Option (List E)) : Type 0 where
   pub end : WorkerEnd
   pub last : Office
   pub given : Option (List L)
@@ -93,7 +94,8 @@ pub record ServesAll {S L E : Type 0} (seat_of : S → SeatState) (visits : S �
   pub is_theirs : kind door ≡ Some Admin
   pub unused : IfTold given (λ links. links ≡ [])
   pub told : StopsTold
-  pub works : Works (VisitsOffice traffic marks faults) (EndsOffice unasked told) marks faults end (opening start disk) last
+  pub works : Works (VisitsOffice traffic marks faults) (EndsOffice unasked told) marks faults end
+      (opening start disk) last
       given (given_back door) 0 (door_faults door)
   pub counted : disk_now ≡ last.faults
   pub events : List Event

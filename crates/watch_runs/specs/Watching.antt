@@ -44,7 +44,8 @@ recorders_of posts = map (λ (post : Post). post.recorder) posts
 -- What the sink was to take: nothing where nobody was served. Else a line for each entry, which are for each worker all
 -- that its recorder put, in its order, and none of any other worker; and then for each worker the count of its checks
 -- that were missed. Where the writing still goes on, the sink took all of it, and else a front of it.
-pub data Journaled (workers : ℕ) (left : Option (List Post)) (writing : Writing) (before after : SinkSeen) : Type 0 where
+pub data Journaled (workers : ℕ) (left : Option (List Post)) (writing : Writing)
+    (before after : SinkSeen) : Type 0 where
   unserved : left ≡ None → writing ≡ GoesOn → after ≡ before → Journaled workers left writing before after
   journaled : (entries : List Entry) → (posts : List Post) → left ≡ Some posts → AreWhole entries (recorders_of posts)
       → AreKnown workers entries

@@ -37,7 +37,8 @@ pub record Knocks {N C : Type 0} (net_faults : N → ℕ) (net_closed : N → Op
 pub record Officiates {D L E : Type 0} (disk_faults : D → ℕ) (state : D → Option DiskState) (moment : D → ℕ)
     (left_since : D → ℕ → FileMap → Type 0) (traffic : L → Option Traffic) (marks : L → LinkMarks)
     (faults : L → ℕ) (given_back : E → Option (List L)) (door_faults : E → ℕ) (kind : E → Option DoorKind)
-    (end : WorkerEnd) (keeper keeper_now : Keeper D) (published published_now : List DeskState) (door door_now : E) (hangs : List Event) : Type 0 where
+    (end : WorkerEnd) (keeper keeper_now : Keeper D) (published published_now : List DeskState) (door door_now : E)
+    (hangs : List Event) : Type 0 where
   -- the frames that came, each with its answer
   pub frames : List Exchange
   pub told : StopsTold
@@ -56,7 +57,8 @@ pub record Staffs {S D L E X : Type 0} (state_of : SeatState → X → S) (seat_
     (disk_faults : D → ℕ) (state : D → Option DiskState) (moment : D → ℕ)
     (left_since : D → ℕ → FileMap → Type 0) (traffic : L → Option Traffic) (marks : L → LinkMarks)
     (faults : L → ℕ) (given_back : E → Option (List L)) (door_faults : E → ℕ) (kind : E → Option DoorKind)
-    (posts : List (Option S)) (duties : List X) (lacked alone : Bool) (keeper keeper_now : Keeper D) (net net_now : ℕ) (closed closed_now : Option (List E)) : Type 0 where
+    (posts : List (Option S)) (duties : List X) (lacked alone : Bool) (keeper keeper_now : Keeper D) (net net_now : ℕ)
+    (closed closed_now : Option (List E)) : Type 0 where
   pub end : WorkerEnd
   pub published : List DeskState
   pub given : Option (List L)
