@@ -41,10 +41,8 @@ abbrev pub seen_of : {S K D N L H : Type 0} → SourceTells S → SinkTells K �
     → N → Outside
 seen_of source_tells sink_tells disk_tells dial_tells source sink disk net = seen
     (source_seen source_tells.left source_tells.faults source) (sink_seen sink_tells.taken sink_tells.faults sink)
-    (disk_seen disk_tells.state disk_tells.moment disk_tells.left_since disk_tells.faults disk) (record {
-      faults
-          = dial_tells.faults net;
-    })
+    (disk_seen disk_tells.state disk_tells.moment disk_tells.left_since disk_tells.faults disk)
+    (record { faults = dial_tells.faults net })
 
 -- How often calls of the disk failed by the end of a run. Of a service `RunsServe` tells it.
 abbrev pub CountsDisk : Option Command → Ending → ℕ → ℕ → Type 0
@@ -90,15 +88,16 @@ module _ {N L H : Type 0} (dial : DialTells N L H) (link : LinkTells L H) (net n
       (start : DeskState) → StandsFor before.disk start → Unraised before.net.faults after.net.faults
       → Gives status before after []
   Completes (Some (Watch workers)) status before after =
-      (start : DeskState) → StandsFor before.disk start → Unraised before.net.faults after.net.faults → (status ≡ 0)
-      ⊎ (status ≡ 1)
+      (start : DeskState) → StandsFor before.disk start → Unraised before.net.faults after.net.faults
+      → (status ≡ 0) ⊎ (status ≡ 1)
   -- where the net did not fail either, what a peer replied is an answer, or it is none
   Completes (Some (Check asked)) status before after = Unraised before.net.faults after.net.faults
       → SaysAll status before after (λ said ending. CompletesCheck dial link asked false said ending net net_after)
   Completes (Some (Simple asked)) status before after = Unraised before.net.faults after.net.faults
       → SaysAll status before after (λ said ending. CompletesCheck dial link asked true said ending net net_after)
   Completes (Some Admin) status before after = Unraised before.net.faults after.net.faults
-      → SaysAll status before after (λ said ending. CompletesAdmin link.faults link.marks link.traffic dial.faults dial.dials
+      → SaysAll status before after (λ said ending. CompletesAdmin
+      link.faults link.marks link.traffic dial.faults dial.dials
       dial.given_back said ending before.source after.source net net_after)
   -- where the service ends the connection, an agent has done its work, though the net counts that
   Completes (Some (Agent kind allowed)) status before after =
@@ -108,13 +107,13 @@ module _ {N L H : Type 0} (dial : DialTells N L H) (link : LinkTells L H) (net n
 -- ---- the whole
 
 -- By what a net tells, and the links that it dials, and what it tells of its doors, with the links that these accept.
-module _ {N L H E A J : Type 0} (dial : DialTells N L H) (link : LinkTells L H) (closed : N
-    → Option (List E)) (door : DoorTells E A J)
-    (accepted : LinkTells A J) where
+module _ {N L H E A J : Type 0} (dial : DialTells N L H) (link : LinkTells L H)
+    (closed : N → Option (List E)) (door : DoorTells E A J) (accepted : LinkTells A J) where
   -- a service by so many workers of clients that ended so
   abbrev pub Serves : ℕ → DiskSeen → DiskSeen → N → N → Ending → Type 0
   Serves workers disk disk_after net net_after ending =
-      RunsPlain accepted.traffic accepted.marks accepted.faults door.given_back door.faults door.kind workers ending disk disk_after
+      RunsPlain accepted.traffic accepted.marks accepted.faults door.given_back door.faults door.kind
+      workers ending disk disk_after
       (dial.faults net) (dial.faults net_after) (closed net) (closed net_after)
 
   module _ (said : Said) (ending : Ending) (source source_after : SourceSeen) (disk disk_after : DiskSeen)
@@ -133,7 +132,8 @@ module _ {N L H E A J : Type 0} (dial : DialTells N L H) (link : LinkTells L H) 
     RunsCommand (Some (Check asked)) = RunsCheck dial link asked false said ending net net_after
     RunsCommand (Some (Simple asked)) = RunsCheck dial link asked true said ending net net_after
     RunsCommand (Some Admin) =
-        RunsAdmin link.faults link.marks link.traffic dial.faults dial.dials dial.given_back said ending source source_after net net_after
+        RunsAdmin link.faults link.marks link.traffic dial.faults dial.dials dial.given_back said ending
+        source source_after net net_after
     RunsCommand (Some (Agent kind allowed)) =
         RunsAgent kind allowed said ending (dial_seen dial link net) (dial_seen dial link net_after)
 
@@ -143,7 +143,8 @@ module _ {N L H E A J : Type 0} (dial : DialTells N L H) (link : LinkTells L H) 
     -- a service that writes lines
     abbrev pub Watches : ℕ → SinkSeen → SinkSeen → Type 0
     Watches workers before after =
-        RunsWatch accepted.traffic accepted.marks accepted.faults door.given_back door.faults door.kind workers ending disk disk_after
+        RunsWatch accepted.traffic accepted.marks accepted.faults door.given_back door.faults door.kind
+        workers ending disk disk_after
         (dial.faults net) (dial.faults net_after) (closed net) (closed net_after) before after
 
     -- what a command wrote before the last line

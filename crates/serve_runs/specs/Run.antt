@@ -23,29 +23,33 @@ use Rattle.serve_runs.specs.Serving.{EndsUnopened, ClosesOpened, ServesAll}
 -- that each state which it published is what its commands made of the one that was mounted.
 pub data RunsServe {S L E : Type 0} (seat_of : S → SeatState) (visits : S → Visit L → S → Type 0)
     (traffic : L → Option Traffic) (marks : L → LinkMarks) (faults : L → ℕ)
-    (given_back : E → Option (List L)) (door_faults : E → ℕ) (kind : E
-    → Option DoorKind) (starts : List S) (left : Option (List S))
+    (given_back : E → Option (List L)) (door_faults : E → ℕ) (kind : E → Option DoorKind)
+    (starts : List S) (left : Option (List S))
     (ending : Ending) (before after : DiskSeen) (net net_now : ℕ) (closed closed_now : Option (List E)) : Type 0 where
   refused : left ≡ None → RefusesFolder silence ending before after
       → after.faults ≡ disk_faults_after ending before.faults
       → net_now ≡ net → closed_now ≡ closed
-      → RunsServe seat_of visits traffic marks faults given_back door_faults kind starts left ending before after net net_now closed closed_now
+      → RunsServe seat_of visits traffic marks faults given_back door_faults kind
+      starts left ending before after net net_now closed closed_now
   unopened : left ≡ None → (start : DeskState)
       → WhereTold before.state (λ entry. KeepsService entry before after start [])
       → after.faults ≡ before.faults → EndsUnopened ending net net_now → ClosesOpened kind closed closed_now
-      → RunsServe seat_of visits traffic marks faults given_back door_faults kind starts left ending before after net net_now closed closed_now
+      → RunsServe seat_of visits traffic marks faults given_back door_faults kind
+      starts left ending before after net net_now closed closed_now
   served : (start : DeskState)
-      → (serves : ServesAll seat_of visits traffic marks faults given_back door_faults kind starts ending start before.faults after.faults
-      net net_now closed closed_now) → left ≡ Some (left_by serves.crew)
+      → (serves : ServesAll seat_of visits traffic marks faults given_back door_faults kind
+      starts ending start before.faults after.faults net net_now closed closed_now)
+      → left ≡ Some (left_by serves.crew)
       → WhereTold before.state (λ entry. KeepsService entry before after start serves.last.frames
       × AreMadeBy start serves.last.frames serves.last.published)
-      → RunsServe seat_of visits traffic marks faults given_back door_faults kind starts left ending before after net net_now closed closed_now
+      → RunsServe seat_of visits traffic marks faults given_back door_faults kind
+      starts left ending before after net net_now closed closed_now
 
 -- what `serve` does by so many workers of clients, whose seats have seen no state and were told of no entry at the
 -- start
 abbrev pub RunsPlain : {L E : Type 0} → (L → Option Traffic) → (L → LinkMarks) → (L → ℕ) → (E → Option (List L))
-    → (E → ℕ)
-    → (E → Option DoorKind) → ℕ → Ending → DiskSeen → DiskSeen → ℕ → ℕ → Option (List E) → Option (List E) → Type 0
+    → (E → ℕ) → (E → Option DoorKind) → ℕ → Ending → DiskSeen → DiskSeen → ℕ → ℕ → Option (List E) → Option (List E)
+    → Type 0
 RunsPlain traffic marks faults given_back door_faults kind workers ending before after net net_now closed closed_now =
     (left : Option (List SeatState))
     × RunsServe (λ seat. seat) (VisitsClients traffic marks faults) traffic marks faults

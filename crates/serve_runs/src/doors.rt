@@ -45,7 +45,8 @@ pub(crate) fn open_doors<N: Net, J: Naming, X: ClientDuty>(
     ensures no_less { N.faults net.old ≤ N.faults net.new }
     ensures closed { N.closed net.new ≡ N.closed net.old }
     ensures few { vec_len crew.new ≤ length stations.items }
-    ensures opened { OnOk result (AllZip (StandsAt N.Door.given_back N.Door.faults N.Door.kind) stations.items crew.new.items) }
+    ensures opened { OnOk result (AllZip (StandsAt N.Door.given_back N.Door.faults N.Door.kind)
+        stations.items crew.new.items) }
 {
     for station in stations {
         if let Err(ending) = open_one(net, station, crew) {

@@ -62,8 +62,8 @@ module _ {L E : Type 0} (traffic : L → Option Traffic) (marks : L → LinkMark
       → Type 0
   RunsWatch ending disk disk_now net net_now closed closed_now sink sink_now =
       (met : Ending) × (writing : Writing) × (queue : TableId) × (left : Option (List Post))
-      × RunsServe (λ (post : Post). post.seat) (VisitsWatched traffic marks faults) traffic marks faults given_back door_faults kind
-      (new_posts queue workers) left met disk disk_now net net_now closed closed_now
+      × RunsServe (λ (post : Post). post.seat) (VisitsWatched traffic marks faults) traffic marks faults given_back door_faults
+      kind (new_posts queue workers) left met disk disk_now net net_now closed closed_now
       × Journaled workers left writing sink sink_now
       × (ending ≡ ending_with met writing)
 

@@ -55,8 +55,8 @@ where
     <<N as Dial>::Link as Link>::End: Send,
     requires some { 0 < workers }
     requires most { workers ≤ 64 }
-    ensures { RunsWatch N.Door.Link.traffic N.Door.Link.marks N.Door.Link.faults N.Door.given_back N.Door.faults N.Door.kind workers
-        result (disk_seen D.state D.moment D.left_since D.faults disk.old)
+    ensures { RunsWatch N.Door.Link.traffic N.Door.Link.marks N.Door.Link.faults N.Door.given_back N.Door.faults
+        N.Door.kind workers result (disk_seen D.state D.moment D.left_since D.faults disk.old)
         (disk_seen D.state D.moment D.left_since D.faults disk.new)
         (N.faults net.old) (N.faults net.new) (N.closed net.old) (N.closed net.new)
         (sink_seen K.taken K.faults sink.old) (sink_seen K.taken K.faults sink.new) }

@@ -102,8 +102,8 @@ pub record StandsAt {L J E X : Type 0} (given_back : E → Option (List L)) (doo
   pub is_theirs : kind worker.door ≡ Some (kind_for (seat_at station))
 
 module _ {S L J E X : Type 0} (state : SeatState → X → S) (visits : S → Visit L → S → Type 0)
-    (traffic : L → Option Traffic) (marks : L → LinkMarks) (faults : L → ℕ) (given_back : E
-    → Option (List L)) (door_faults : E → ℕ) where
+    (traffic : L → Option Traffic) (marks : L → LinkMarks) (faults : L → ℕ)
+    (given_back : E → Option (List L)) (door_faults : E → ℕ) where
   -- what a worker did at its station and its door
   abbrev pub WorksAt : WorkerEnd → Station J X → Station J X → E → E → StopsTold → StopsTold → Type 0
   WorksAt end (Clients seat duty) (Clients seat_now duty_now) door door_now told told_now =

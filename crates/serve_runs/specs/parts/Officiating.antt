@@ -75,7 +75,8 @@ pub record Staffs {S D L E X : Type 0} (state_of : SeatState → X → S) (seat_
   pub none_below : NoneBelow events
   pub hung : AreHung events frames
   pub crew : List (EndedWorker S E)
-  pub serves : AllZip (Serves seat_of visits traffic marks faults given_back door_faults kind published events) posts crew
+  pub serves : AllZip (Serves seat_of visits traffic marks faults given_back door_faults kind published events)
+      posts crew
   pub left : AreStatesOf state_of duties (left_by crew)
   pub doors : ClosesDoors closed (door ∷ doors_of crew) closed_now
   pub memory : lacked ≡ lacks_memory (end ∷ ends_of crew)
