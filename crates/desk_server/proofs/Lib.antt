@@ -1,5 +1,5 @@
 pub mod Visits
-pub mod Offices
+pub mod AdminStates
 pub mod Watched
 pub mod Forgetting
 pub mod Recordings

@@ -13,7 +13,7 @@ use Rattle.admin_door.specs.Serving.{AdminTalk, Exchange, Serves}
 use Rattle.desk_server.specs.Visit.{Visit, IsFresh, InTurn, GivesBack, GoesOn, Works, IsOver, IsNotOver, told_each}
 use Rattle.desk_server.specs.Visit.{GoesOnTold}
 use Rattle.desk_server.specs.Visit.{EndsWorking, door_faults_after}
-use Rattle.desk_server.specs.Administrators.{EndsBehind, EndsOffice}
+use Rattle.desk_server.specs.Administrators.{EndsBehind, EndsAdministrators}
 use Rattle.desk_server.specs.declared.workers.WorkerEnd.{WorkerEnd}
 use Rattle.desk_server.specs.declared.workers.WorkerEnd.TheVariants.{Stopped, DoorFailed, Memory, Alone, Unstarted}
 use Rattle.desk_server.specs.parts.Turn.{SoFar, RefusesLink}
@@ -119,16 +119,16 @@ refused_told told told_now end (inr is) visits goes = subst (λ (e : WorkerEnd).
 -- ---- administrators
 
 -- it made a stop, or is told that the service is stopped
-pub ends_office : {L : Type 0} (told was is : StopsTold) (end : WorkerEnd) (visit : Visit L)
+pub ends_admin_state : {L : Type 0} (told was is : StopsTold) (end : WorkerEnd) (visit : Visit L)
     → EndsBehind end visit.ended was is
-    → (visits : List (Visit L)) → GoesOnTold told was visits → EndsOffice told is end (visits ++ visit ∷ [])
-ends_office told was is Stopped visit behind visits (all, so) =
+    → (visits : List (Visit L)) → GoesOnTold told was visits → EndsAdministrators told is end (visits ++ visit ∷ [])
+ends_admin_state told was is Stopped visit behind visits (all, so) =
     (visits, visit, refl, all, subst (λ (t : StopsTold). EndsBehind Stopped visit.ended t is) so behind)
-ends_office told was is Alone visit behind visits (all, so) =
+ends_admin_state told was is Alone visit behind visits (all, so) =
     (visits, visit, refl, all, subst (λ (t : StopsTold). EndsBehind Alone visit.ended t is) so behind)
-ends_office told was is DoorFailed visit behind visits goes = absurd behind
-ends_office told was is Memory visit behind visits goes = absurd behind
-ends_office told was is Unstarted visit behind visits goes = absurd behind
+ends_admin_state told was is DoorFailed visit behind visits goes = absurd behind
+ends_admin_state told was is Memory visit behind visits goes = absurd behind
+ends_admin_state told was is Unstarted visit behind visits goes = absurd behind
 
 -- its door counts nothing then
 pub behind_counts : (end : WorkerEnd) (ended : Ended) (told told_now : StopsTold) → EndsBehind end ended told told_now
@@ -141,11 +141,11 @@ behind_counts Memory ended told told_now behind n = absurd behind
 behind_counts Unstarted ended told told_now behind n = absurd behind
 
 -- its door accepts none
-pub refused_office : {L : Type 0} (told told_now : StopsTold) (end : WorkerEnd) → (end ≡ DoorFailed) ⊎ (end ≡ Memory)
-    → (visits : List (Visit L)) → GoesOnTold told told_now visits → EndsOffice told told_now end visits
-refused_office told told_now end (inl is) visits goes = subst (λ (e : WorkerEnd). EndsOffice told told_now e visits)
+pub refused_admin_state : {L : Type 0} (told told_now : StopsTold) (end : WorkerEnd) → (end ≡ DoorFailed) ⊎ (end ≡ Memory)
+    → (visits : List (Visit L)) → GoesOnTold told told_now visits → EndsAdministrators told told_now end visits
+refused_admin_state told told_now end (inl is) visits goes = subst (λ (e : WorkerEnd). EndsAdministrators told told_now e visits)
     (sym is) goes
-refused_office told told_now end (inr is) visits goes = subst (λ (e : WorkerEnd). EndsOffice told told_now e visits)
+refused_admin_state told told_now end (inr is) visits goes = subst (λ (e : WorkerEnd). EndsAdministrators told told_now e visits)
     (sym is) goes
 
 -- ---- turns

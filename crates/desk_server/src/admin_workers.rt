@@ -6,8 +6,9 @@ ghost use Rattle.desk_server.specs.Visit.{Works, IsNotOver};
 ghost use Rattle.admin_door.specs.Serving.{Exchange};
 ghost use Rattle.admin_door.specs.Running.{RunsOver};
 ghost use Rattle.admin_door.specs.Hanging.{AreHung};
-ghost use Rattle.desk_server.specs.Administrators.{office_of, VisitsOffice, EndsOffice, EndsBehind, tally_behind};
-ghost use Rattle.desk_server.specs.parts.Turn.{TurnsOffice};
+ghost use Rattle.desk_server.specs.Administrators.{admin_state_of, VisitsAdministrators, EndsAdministrators};
+ghost use Rattle.desk_server.specs.Administrators.{EndsBehind, tally_behind};
+ghost use Rattle.desk_server.specs.parts.Turn.{TurnsAdminState};
 
 use crate::notes::{Notes, note_stop, note_store};
 use crate::serving::serve_admin;
@@ -52,8 +53,9 @@ pub fn work_for_administrators<
 ) -> WorkerEnd
     requires behind { last_commit 0 publisher.old ≤ keeper.old.desk.commit }
     ensures worked { (frames : List Exchange)
-        × Works (VisitsOffice L.traffic L.marks L.faults) (EndsOffice news.old news.new) L.marks L.faults result
-        (office_of D.faults keeper.old publisher.old []) (office_of D.faults keeper.new publisher.new frames)
+        × Works (VisitsAdministrators L.traffic L.marks L.faults)
+        (EndsAdministrators news.old news.new) L.marks L.faults result
+        (admin_state_of D.faults keeper.old publisher.old []) (admin_state_of D.faults keeper.new publisher.new frames)
         (E.given_back door.old) (E.given_back door.new) (E.faults door.old) (E.faults door.new)
         × RunsOver D.state D.moment D.left_since keeper.old keeper.new frames × AreHung hangs.new frames }
     ensures same_disk { IsSameDisk keeper.old keeper.new }
@@ -100,8 +102,9 @@ fn serve_administrators<
 ) -> WorkerEnd
     requires behind { last_commit 0 publisher.old ≤ keeper.old.desk.commit }
     ensures worked { (frames : List Exchange)
-        × Works (VisitsOffice L.traffic L.marks L.faults) (EndsOffice news.old news.new) L.marks L.faults result
-        (office_of D.faults keeper.old publisher.old []) (office_of D.faults keeper.new publisher.new frames)
+        × Works (VisitsAdministrators L.traffic L.marks L.faults)
+        (EndsAdministrators news.old news.new) L.marks L.faults result
+        (admin_state_of D.faults keeper.old publisher.old []) (admin_state_of D.faults keeper.new publisher.new frames)
         (E.given_back door.old) (E.given_back door.new) (E.faults door.old) (E.faults door.new)
         × RunsOver D.state D.moment D.left_since keeper.old keeper.new frames × AreHung hangs.new frames }
     ensures same_disk { IsSameDisk keeper.old keeper.new }
@@ -139,7 +142,7 @@ fn serve_next<
     news: &mut StopNews,
 ) -> Result<(), WorkerEnd>
     requires behind { last_commit 0 publisher.old ≤ keeper.old.desk.commit }
-    ensures worked { TurnsOffice D.faults D.state D.moment D.left_since L.traffic L.marks L.faults result
+    ensures worked { TurnsAdminState D.faults D.state D.moment D.left_since L.traffic L.marks L.faults result
         keeper.old publisher.old (E.given_back door.old) (E.faults door.old) news.old hangs.old
         keeper.new publisher.new (E.given_back door.new) (E.faults door.new) news.new hangs.new }
     ensures behind { last_commit 0 publisher.new ≤ keeper.new.desk.commit }

@@ -11,7 +11,7 @@
 #![tactic(auto)]
 
 mod admin_workers;
-mod duties;
+mod handlers;
 mod laws;
 mod monitored_workers;
 mod monitoring;
@@ -21,7 +21,7 @@ mod serving;
 mod workers;
 
 pub use admin_workers::work_for_administrators;
-pub use duties::{ClientDuty, Unrecorded};
+pub use handlers::{ClientHandler, Unrecorded};
 pub use laws::{
     each_record_puts_or_misses, watched_clients_are_served_as_others,
     what_is_put_is_what_was_judged,

@@ -14,7 +14,7 @@ use Rattle.run_endings.specs.declared.endings.Ending.{Ending}
 use Rattle.run_endings.specs.declared.endings.Ending.TheVariants.{Done, Memory, Words, Line, Source, Sink, Disk, Net, Damaged, Reply}
 use Rattle.run_endings.specs.declared.endings.Ending.TheVariants.{TooLong}
 use Rattle.serve_runs.specs.Serving.{ClosesDoors, ClosesOpened, HasRisen, EndsUnopened}
-use Rattle.serve_runs.specs.parts.Crews.{CountsDoor}
+use Rattle.serve_runs.specs.parts.Pools.{CountsDoor}
 
 pub closes_none : {E : Type 0} (told : Option (List E)) → ClosesDoors told [] told
 closes_none told = λ after is. (after, is, sym (append-nil after))

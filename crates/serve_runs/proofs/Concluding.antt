@@ -10,9 +10,9 @@ use Rattle.desk_server.specs.declared.workers.WorkerEnd.TheVariants.{Stopped, Do
 use Rattle.run_endings.specs.declared.endings.Ending.{Ending}
 use Rattle.run_endings.specs.declared.endings.Ending.TheVariants.{Done, Memory, Words, Line, Source, Sink, Disk, Net, Damaged, Reply}
 use Rattle.run_endings.specs.declared.endings.Ending.TheVariants.{TooLong}
-use Rattle.serve_runs.specs.Crew.{lacks_memory, is_deserted}
+use Rattle.serve_runs.specs.Pool.{lacks_memory, is_deserted}
 use Rattle.serve_runs.specs.Serving.{HasRisen, HasNotRisen, EndsService, EndsUnopened, IsUndone}
-use Rattle.serve_runs.specs.parts.Officiating.{EndsBy}
+use Rattle.serve_runs.specs.parts.Administering.{EndsBy}
 
 apart : {P : Type 0} (before after : ℕ) → HasRisen before after → HasNotRisen before after → P
 apart before after risen unrisen = absurd (omega (arith, risen, unrisen))

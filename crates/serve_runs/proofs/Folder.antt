@@ -16,9 +16,9 @@ use Rattle.link_ports.specs.LinkMarks.{LinkMarks}
 use Rattle.admin_door.specs.Serving.{Exchange}
 use Rattle.admin_door.specs.Running.{LeadsTo, ComesFrom, IsReached, RunsOver}
 use Rattle.desk_server.specs.Visit.{Visit, Works}
-use Rattle.desk_server.specs.Administrators.{Office, VisitsOffice}
+use Rattle.desk_server.specs.Administrators.{AdminState, VisitsAdministrators}
 use Rattle.desk_server.specs.declared.workers.WorkerEnd.{WorkerEnd}
-use Rattle.desk_server.proofs.Offices.{office-holds}
+use Rattle.desk_server.proofs.AdminStates.{admin_state-holds}
 use Rattle.run_endings.specs.Outside.{DiskSeen, disk_seen}
 use Rattle.run_endings.specs.Saying.{silence}
 use Rattle.run_endings.specs.declared.endings.Ending.TheVariants.{Memory}
@@ -87,12 +87,12 @@ module _ (mounted : DiskState) (start : DeskState) (alone : (map : FileMap) → 
 
 -- each state that a service published is what the first few of its frames made of the state that was mounted
 module _ {L : Type 0} (traffic : L → Option Traffic) (marks : L → LinkMarks) (faults : L → ℕ) where
-  pub published-made : (entry : DiskState) (before after : DiskSeen) (start : DeskState) (last : Office) (disk : ℕ) (end : WorkerEnd)
+  pub published-made : (entry : DiskState) (before after : DiskSeen) (start : DeskState) (last : AdminState) (disk : ℕ) (end : WorkerEnd)
       (ends : WorkerEnd → List (Visit L) → Type 0) (given given_now : Option (List L)) (count : ℕ)
-      → Works (VisitsOffice traffic marks faults) ends marks faults end (opening start disk) last given given_now 0 count
+      → Works (VisitsAdministrators traffic marks faults) ends marks faults end (opening start disk) last given given_now 0 count
       → KeepsService entry before after start last.frames → AreMadeBy start last.frames last.published
   published-made entry before after start last disk end ends given given_now count works keeps =
-      let holds = office-holds traffic marks faults keeps.mounted start (start ∷ []) last.frames keeps.tells (opening start disk)
+      let holds = admin_state-holds traffic marks faults keeps.mounted start (start ∷ []) last.frames keeps.tells (opening start disk)
       works.visits last [] works.in_turn (sym (append-nil last.frames))
       (record { comes = inl refl; more = []; published_is = refl; each = tt }) in
       subst (λ (published : List DeskState). AreMadeBy start last.frames published) (sym holds.published_is)

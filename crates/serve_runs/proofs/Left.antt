@@ -13,7 +13,7 @@ use Rattle.desk_server.specs.Visit.{Visit, InTurn}
 use Rattle.desk_server.specs.declared.workers.WorkerEnd.{WorkerEnd}
 use Rattle.run_endings.specs.Outside.{DiskSeen}
 use Rattle.run_endings.specs.declared.endings.Ending.{Ending}
-use Rattle.serve_runs.specs.Crew.{EndedWorker, left_by, posts_with, WorksFor, Serves}
+use Rattle.serve_runs.specs.Pool.{EndedWorker, left_by, posts_with, WorksFor, Serves}
 use Rattle.serve_runs.specs.Run.{RunsServe}
 use Rattle.serve_runs.specs.Run.RunsServe.{refused, unopened, served}
 
@@ -28,8 +28,8 @@ module _ {S L E : Type 0} (seat_of : S → SeatState) (visits : S → Visit L �
     abbrev For : Option S → Option S → WorkerEnd → StopsTold → Option (List L) → E → Type 0
     For = WorksFor seat_of visits traffic marks faults given_back door_faults kind published events
 
-    abbrev Crew : List (Option S) → List (EndedWorker S E) → Type 0
-    Crew = AllZip (Serves seat_of visits traffic marks faults given_back door_faults kind published events)
+    abbrev Pool : List (Option S) → List (EndedWorker S E) → Type 0
+    Pool = AllZip (Serves seat_of visits traffic marks faults given_back door_faults kind published events)
 
     one_left : (start : S) (left : Option S) (end : WorkerEnd) (told : StopsTold) (given : Option (List L)) (door : E)
         (starts states : List S) → For (Some start) left end told given door → AllZip CameTo starts states
@@ -42,18 +42,18 @@ module _ {S L E : Type 0} (seat_of : S → SeatState) (visits : S → Visit L �
     no_left None end told given door states works all = all
     no_left (Some now) end told given door states works all = absurd works
 
-    none_left : (count : ℕ) (crew : List (EndedWorker S E)) → Crew (replicate count None) crew → AllZip CameTo [] (left_by crew)
+    none_left : (count : ℕ) (pool : List (EndedWorker S E)) → Pool (replicate count None) pool → AllZip CameTo [] (left_by pool)
     none_left zero [] all = tt
-    none_left zero (w ∷ crew) all = absurd all
+    none_left zero (w ∷ pool) all = absurd all
     none_left (suc count) [] all = absurd all
-    none_left (suc count) (w ∷ crew) (serves, all) =
-        no_left w.left w.end serves.told serves.given w.door (left_by crew) serves.works (none_left count crew all)
+    none_left (suc count) (w ∷ pool) (serves, all) =
+        no_left w.left w.end serves.told serves.given w.door (left_by pool) serves.works (none_left count pool all)
 
-    each_left : (starts : List S) (crew : List (EndedWorker S E)) → Crew (posts_with starts) crew → AllZip CameTo starts (left_by crew)
-    each_left [] crew all = none_left 9 crew all
+    each_left : (starts : List S) (pool : List (EndedWorker S E)) → Pool (posts_with starts) pool → AllZip CameTo starts (left_by pool)
+    each_left [] pool all = none_left 9 pool all
     each_left (start ∷ starts) [] all = absurd all
-    each_left (start ∷ starts) (w ∷ crew) (serves, all) =
-        one_left start w.left w.end serves.told serves.given w.door starts (left_by crew) serves.works (each_left starts crew all)
+    each_left (start ∷ starts) (w ∷ pool) (serves, all) =
+        one_left start w.left w.end serves.told serves.given w.door starts (left_by pool) serves.works (each_left starts pool all)
 
   -- where there was a service
   pub all_left : (starts : List S) (left : Option (List S)) (states : List S) (ending : Ending) (before after : DiskSeen) (net net_now : ℕ)
@@ -65,5 +65,5 @@ module _ {S L E : Type 0} (seat_of : S → SeatState) (visits : S → Visit L �
   all_left starts left states ending before after net net_now closed closed_now is (unopened none start keeps counted ends doors) =
       let wrong : ⊥ = cc in absurd wrong
   all_left starts left states ending before after net net_now closed closed_now is (served start serves left_is keeps) =
-      let same : left_by serves.crew ≡ states = cc in
-      subst (λ (list : List S). AllZip CameTo starts list) same (each_left serves.last.published serves.events starts serves.crew serves.serves)
+      let same : left_by serves.pool ≡ states = cc in
+      subst (λ (list : List S). AllZip CameTo starts list) same (each_left serves.last.published serves.events starts serves.pool serves.serves)

@@ -1,7 +1,7 @@
 pub mod Closing
 pub mod Completing
 pub mod Concluding
-pub mod Crewing
+pub mod Pooling
 pub mod Ending
 pub mod Folder
 pub mod Left

@@ -1,4 +1,4 @@
--- A worker of the crew may go to another thread, with its seat, what it does beside, and its door.
+-- A worker of the pool may go to another thread, with its seat, what it does beside, and its door.
 use denote.RattleType.{RattleType}
 use denote.Param.Send.{IsSend, IsSync, sendable}
 use denote.Param.SendFields.{as_row_send, as_row_sync}
@@ -17,8 +17,8 @@ use Rattle.live_desk.proofs.Sent as live
 use Rattle.check_monitor.specs.contracts.alarms.Alarm as Alarm
 use Rattle.server_hall.specs.contracts.locked.QuestionDesk as QuestionDesk
 use Rattle.serve_runs.specs.contracts.musters.Muster as Muster
-use Rattle.serve_runs.specs.contracts.crews.Station as Station
-use Rattle.serve_runs.specs.contracts.crews.Worker as Worker
+use Rattle.serve_runs.specs.contracts.pools.Station as Station
+use Rattle.serve_runs.specs.contracts.pools.Worker as Worker
 
 module _ (J : RattleType) (naming : Ghosts J.Denot) where
   seat_send : (events : Ghosts (Events.the_row J).Denot) → IsSend J → IsSync J
@@ -27,16 +27,16 @@ module _ (J : RattleType) (naming : Ghosts J.Denot) where
 
 module _ (J X : RattleType) (naming : Ghosts J.Denot) where
   station_send : IsSend J → IsSync J → IsSend X → IsSend (Station.the_field J X naming).row
-  station_send send sync duty = search (sendable, crosses, seat_send) depth 40
+  station_send send sync handler = search (sendable, crosses, seat_send) depth 40
 
 module _ (J D X : RattleType) (naming : Ghosts J.Denot) where
   worker_send : IsSend J → IsSync J → IsSend D → IsSend X → IsSend (Worker.the_field J D X naming).row
-  worker_send send sync door duty = search (sendable, crosses, station_send) depth 40
+  worker_send send sync door handler = search (sendable, crosses, station_send) depth 40
 
   -- where its door may, and what it does beside
   pub worker_row_send : IsSend J → IsSync J → IsSend D → IsSend X → IsSend (Worker.the_row J D X naming)
-  worker_row_send send sync door duty =
-      as_row_send (Worker.the_field J D X naming) (worker_send send sync door duty)
+  worker_row_send send sync door handler =
+      as_row_send (Worker.the_field J D X naming) (worker_send send sync door handler)
 
 -- What each worker is lent: the lock of the registry, where its ends and the name of its log may go to another thread; and the rest.
 module _ (H J : RattleType) (end : Ends H.Denot) (naming : Ghosts J.Denot) (events : Ghosts (Events.the_row J).Denot) where

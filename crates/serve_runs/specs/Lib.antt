@@ -1,5 +1,5 @@
-pub mod Crew
-pub mod Duties
+pub mod Pool
+pub mod Handlers
 pub mod Serving
 pub mod Folder
 pub mod OneList

@@ -13,7 +13,7 @@ use Rattle.run_endings.specs.Outside.{DiskSeen}
 use Rattle.run_endings.specs.Saying.{silence}
 use Rattle.run_endings.specs.declared.endings.Ending.{Ending}
 use Rattle.folder_runs.specs.Folder.{RefusesFolder}
-use Rattle.serve_runs.specs.Crew.{left_by}
+use Rattle.serve_runs.specs.Pool.{left_by}
 use Rattle.serve_runs.specs.Folder.{KeepsService, AreMadeBy}
 use Rattle.serve_runs.specs.Serving.{EndsUnopened, ClosesOpened, ServesAll}
 
@@ -39,7 +39,7 @@ pub data RunsServe {S L E : Type 0} (seat_of : S → SeatState) (visits : S → 
   served : (start : DeskState)
       → (serves : ServesAll seat_of visits traffic marks faults given_back door_faults kind
       starts ending start before.faults after.faults net net_now closed closed_now)
-      → left ≡ Some (left_by serves.crew)
+      → left ≡ Some (left_by serves.pool)
       → WhereTold before.state (λ entry. KeepsService entry before after start serves.last.frames
       × AreMadeBy start serves.last.frames serves.last.published)
       → RunsServe seat_of visits traffic marks faults given_back door_faults kind

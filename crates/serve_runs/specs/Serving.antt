@@ -14,12 +14,12 @@ use Rattle.live_desk.specs.Seat.{SeatState}
 use Rattle.admin_door.specs.Hanging.{AreHung}
 use Rattle.server_hall.specs.StopNews.{StopsTold, unasked}
 use Rattle.desk_server.specs.Visit.{Visit, Works}
-use Rattle.desk_server.specs.Administrators.{Office, VisitsOffice, EndsOffice}
+use Rattle.desk_server.specs.Administrators.{AdminState, VisitsAdministrators, EndsAdministrators}
 use Rattle.desk_server.specs.declared.workers.WorkerEnd.{WorkerEnd}
 use Rattle.desk_server.specs.declared.workers.WorkerEnd.TheVariants.{Stopped}
 use Rattle.run_endings.specs.declared.endings.Ending.{Ending}
 use Rattle.run_endings.specs.declared.endings.Ending.TheVariants.{Done, Memory, Disk, Net}
-use Rattle.serve_runs.specs.Crew.{EndedWorker, ends_of, doors_of, lacks_memory, is_deserted, posts_with, Serves}
+use Rattle.serve_runs.specs.Pool.{EndedWorker, ends_of, doors_of, lacks_memory, is_deserted, posts_with, Serves}
 
 -- ---- counts
 
@@ -60,7 +60,7 @@ IsUndone ending = Unit {0}
 -- ---- all that are served
 
 -- what the first administrator meets: the state of the folder is kept, and published
-abbrev pub opening : DeskState → ℕ → Office
+abbrev pub opening : DeskState → ℕ → AdminState
 opening desk faults = record { desk = desk; decided = true; published = desk ∷ []; faults = faults; frames = [] }
 
 -- these doors were closed behind those that were closed before, where the net still tells them
@@ -88,21 +88,21 @@ pub record ServesAll {S L E : Type 0} (seat_of : S → SeatState) (visits : S �
     (ending : Ending) (start : DeskState) (disk disk_now net net_now : ℕ)
     (closed closed_now : Option (List E)) : Type 0 where
   pub end : WorkerEnd
-  pub last : Office
+  pub last : AdminState
   pub given : Option (List L)
   pub door : E
   pub is_theirs : kind door ≡ Some Admin
   pub unused : IfTold given (λ links. links ≡ [])
   pub told : StopsTold
-  pub works : Works (VisitsOffice traffic marks faults) (EndsOffice unasked told) marks faults end
+  pub works : Works (VisitsAdministrators traffic marks faults) (EndsAdministrators unasked told) marks faults end
       (opening start disk) last
       given (given_back door) 0 (door_faults door)
   pub counted : disk_now ≡ last.faults
   pub events : List Event
   pub none_below : NoneBelow events
   pub hung : AreHung events last.frames
-  pub crew : List (EndedWorker S E)
+  pub pool : List (EndedWorker S E)
   pub serves : AllZip (Serves seat_of visits traffic marks faults given_back door_faults kind last.published events)
-      (posts_with starts) crew
-  pub doors : ClosesDoors closed (door ∷ doors_of crew) closed_now
-  pub ends : EndsService ending (end ∷ ends_of crew) disk disk_now net net_now
+      (posts_with starts) pool
+  pub doors : ClosesDoors closed (door ∷ doors_of pool) closed_now
+  pub ends : EndsService ending (end ∷ ends_of pool) disk disk_now net net_now

@@ -1,2 +1,2 @@
-pub mod Crews
-pub mod Officiating
+pub mod Pools
+pub mod Administering

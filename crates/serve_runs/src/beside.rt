@@ -1,11 +1,11 @@
 // The workers on threads, beside the administrators on the calling one.
 ghost use Rattle.std.specs.Prelude.{◌≤◌, ℕ};
 ghost use Rattle.live_desk.specs.History.{last_commit};
-ghost use Rattle.serve_runs.specs.parts.Crews.{HaveWorked};
-ghost use Rattle.serve_runs.specs.parts.Officiating.{Knocks, Officiates};
+ghost use Rattle.serve_runs.specs.parts.Pools.{HaveWorked};
+ghost use Rattle.serve_runs.specs.parts.Administering.{Knocks, Administers};
 
-use crate::chores::Chore;
 use crate::musters::Muster;
+use crate::tasks::Task;
 use crate::telling::{note_end, note_ready, note_short};
 use crate::watches::keep_watch;
 use check_monitor::Alarm;
@@ -23,7 +23,7 @@ use std::thread::{Threads, join_mut};
 use std::time::Clock;
 
 /// Has each worker do its work on a thread of its own, and serves administrators on the calling one. One more thread
-/// does the chore, and wakes all workers that wait at their doors once the service is stopped, so many of clients among
+/// does the task, and wakes all workers that wait at their doors once the service is stopped, so many of clients among
 /// them. Returns when all are done. Where not all threads can be made, nobody is served.
 pub(crate) fn beside<
     R: Threads + Wait + Clock + Sync,
@@ -35,7 +35,7 @@ pub(crate) fn beside<
     E: Door<Link = L>,
     N: Net + Send,
     T: Notes,
-    C: Chore + Send,
+    C: Task + Send,
     J: Naming,
 >(
     rt: &R,
@@ -53,7 +53,7 @@ pub(crate) fn beside<
     net: &mut N,
     door: &mut E,
     notes: &T,
-    chore: &mut C,
+    task: &mut C,
 ) -> WorkerEnd
 where
     N::Door: Send,
@@ -63,11 +63,11 @@ where
     <<N as Dial>::Link as Link>::End: Send,
     requires workers { F.IsAlwaysCallable each.now }
     requires behind { last_commit 0 publisher.old ≤ keeper.old.desk.commit }
-    ensures officiates { Officiates D.faults D.state D.moment D.left_since L.traffic L.marks L.faults
+    ensures administers { Administers D.faults D.state D.moment D.left_since L.traffic L.marks L.faults
         E.given_back E.faults E.kind result
         keeper.old keeper.new publisher.old publisher.new door.old door.new hangs.new }
     ensures knocks { Knocks N.faults N.closed net.old net.new }
-    ensures chore { (turns : ℕ) × C.goes chore.old turns chore.new }
+    ensures task { (turns : ℕ) × C.goes task.old turns task.new }
     ensures workers { HaveWorked F.Fn each.now workers.old workers.new }
 {
     let threads = (workers.len() as u64).saturating_add(1);
@@ -77,16 +77,16 @@ where
     { each_of(rt, each, workers) };
     let mut rest = || -> WorkerEnd
         requires { last_commit 0 publisher.now ≤ keeper.now.desk.commit }
-        ensures officiates { Officiates D.faults D.state D.moment D.left_since L.traffic L.marks L.faults
+        ensures administers { Administers D.faults D.state D.moment D.left_since L.traffic L.marks L.faults
             E.given_back E.faults E.kind result
             keeper.entry.now keeper.exit.now publisher.entry.now publisher.exit.now door.entry.now door.exit.now
             hangs.exit.now }
         ensures knocks { Knocks N.faults N.closed net.entry.now net.exit.now }
-        ensures chore { (turns : ℕ) × C.goes chore.entry.now turns chore.exit.now }
+        ensures task { (turns : ℕ) × C.goes task.entry.now turns task.exit.now }
     {
         attend(
             rt, alloc, clients, threads, keeper, publisher, roll, questions, hangs, muster, alarm,
-            net, door, notes, chore,
+            net, door, notes, task,
         )
     };
     let ((), end) = join_mut(rt, &mut front, &mut rest);
@@ -118,7 +118,7 @@ fn attend<
     E: Door<Link = L>,
     N: Net + Send,
     T: Notes,
-    C: Chore + Send,
+    C: Task + Send,
     J: Naming,
 >(
     rt: &R,
@@ -135,7 +135,7 @@ fn attend<
     net: &mut N,
     door: &mut E,
     notes: &T,
-    chore: &mut C,
+    task: &mut C,
 ) -> WorkerEnd
 where
     N::Door: Send,
@@ -144,34 +144,42 @@ where
     <N as Dial>::Link: Send,
     <<N as Dial>::Link as Link>::End: Send,
     requires { last_commit 0 publisher.old ≤ keeper.old.desk.commit }
-    ensures officiates { Officiates D.faults D.state D.moment D.left_since L.traffic L.marks L.faults
+    ensures administers { Administers D.faults D.state D.moment D.left_since L.traffic L.marks L.faults
         E.given_back E.faults E.kind result
         keeper.old keeper.new publisher.old publisher.new door.old door.new hangs.new }
     ensures knocks { Knocks N.faults N.closed net.old net.new }
-    ensures chore { (turns : ℕ) × C.goes chore.old turns chore.new }
+    ensures task { (turns : ℕ) × C.goes task.old turns task.new }
 {
     let mut watch = ||
         ensures knocks { Knocks N.faults N.closed net.entry.now net.exit.now }
-        ensures chore { (turns : ℕ) × C.goes chore.entry.now turns chore.exit.now }
-    { keep_watch(rt, clients, questions, muster, alarm, net, chore) };
-    let mut office = || -> WorkerEnd
+        ensures task { (turns : ℕ) × C.goes task.entry.now turns task.exit.now }
+    { keep_watch(rt, clients, questions, muster, alarm, net, task) };
+    let mut admin_state = || -> WorkerEnd
         requires { last_commit 0 publisher.now ≤ keeper.now.desk.commit }
-        ensures { Officiates D.faults D.state D.moment D.left_since L.traffic L.marks L.faults
+        ensures { Administers D.faults D.state D.moment D.left_since L.traffic L.marks L.faults
             E.given_back E.faults E.kind result
             keeper.entry.now keeper.exit.now publisher.entry.now publisher.exit.now door.entry.now door.exit.now
             hangs.exit.now }
     {
-        officiate(
+        administer(
             rt, alloc, threads, keeper, publisher, roll, questions, hangs, muster, alarm, door,
             notes,
         )
     };
-    let ((), end) = join_mut(rt, &mut watch, &mut office);
+    let ((), end) = join_mut(rt, &mut watch, &mut admin_state);
     end
 }
 
 // Serves the administrators, once all other threads have begun; nobody where they have not.
-fn officiate<R: Wait + Clock, D: Disk, H: HangEnd, L: Link, E: Door<Link = L>, T: Notes, J: Naming>(
+fn administer<
+    R: Wait + Clock,
+    D: Disk,
+    H: HangEnd,
+    L: Link,
+    E: Door<Link = L>,
+    T: Notes,
+    J: Naming,
+>(
     rt: &R,
     alloc: Global,
     threads: u64,
@@ -186,7 +194,7 @@ fn officiate<R: Wait + Clock, D: Disk, H: HangEnd, L: Link, E: Door<Link = L>, T
     notes: &T,
 ) -> WorkerEnd
     requires { last_commit 0 publisher.old ≤ keeper.old.desk.commit }
-    ensures { Officiates D.faults D.state D.moment D.left_since L.traffic L.marks L.faults
+    ensures { Administers D.faults D.state D.moment D.left_since L.traffic L.marks L.faults
         E.given_back E.faults E.kind result
         keeper.old keeper.new publisher.old publisher.new door.old door.new hangs.new }
 {

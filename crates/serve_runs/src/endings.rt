@@ -2,8 +2,8 @@
 ghost use Rattle.std.specs.Prelude.{◌≡◌, ◌||◌};
 ghost use Rattle.std.specs.Bool.{OnTrue, OnFalse};
 ghost use Rattle.serve_runs.specs.Serving.{HasRisen, HasNotRisen};
-ghost use Rattle.serve_runs.specs.Crew.{is_lacking, is_alone};
-ghost use Rattle.serve_runs.specs.parts.Officiating.{EndsBy};
+ghost use Rattle.serve_runs.specs.Pool.{is_lacking, is_alone};
+ghost use Rattle.serve_runs.specs.parts.Administering.{EndsBy};
 
 use desk_server::WorkerEnd;
 use run_endings::Ending;
@@ -44,7 +44,7 @@ fn has_risen(before: u64, after: u64) -> bool
     before.saturating_add(1) <= after
 }
 
-/// Whether memory or a thread was wanting: for one of the crew, or for the worker of administrators, which ended so.
+/// Whether memory or a thread was wanting: for one of the pool, or for the worker of administrators, which ended so.
 pub(crate) fn lacks_memory(lacked: bool, end: WorkerEnd) -> bool
     ensures { result ≡ is_lacking end || lacked }
 {

@@ -8,21 +8,21 @@
 #![tactic(auto)]
 
 mod beside;
-mod chores;
-mod crews;
 mod doors;
 mod endings;
 mod laws;
 mod musters;
+mod pools;
 mod runs;
 mod serving;
+mod tasks;
 mod telling;
 mod watches;
 
-pub use chores::{Chore, NoChore, Turn};
-pub use crews::AGENT_WORKERS;
 pub use laws::{
     each_connection_entered_in_the_one_log, each_verdict_is_of_the_one_list,
     no_reply_is_older_than_what_was_acknowledged,
 };
+pub use pools::AGENT_WORKERS;
 pub use runs::{MOST_CLIENT_WORKERS, ServiceRun, run_serve, run_service};
+pub use tasks::{NoTask, Task, Turn};

@@ -2,18 +2,18 @@
 ghost use Rattle.std.specs.Prelude.{◌≡◌, ◌<◌, ◌≤◌, ℕ, List, Option, length, IfOk, IfNone, OnSome};
 ghost use Rattle.live_desk.specs.Seat.{new_seats};
 ghost use Rattle.run_endings.specs.Outside.{disk_seen};
-ghost use Rattle.serve_runs.specs.Duties.{states_of, AreLeftOf};
+ghost use Rattle.serve_runs.specs.Handlers.{states_of, AreLeftOf};
 ghost use Rattle.serve_runs.specs.Run.{RunsServe, RunsPlain};
 ghost use Rattle.serve_runs.specs.Serving.{IsUndone};
 
-use crate::chores::{Chore, NoChore};
 use crate::endings::ending_of;
 use crate::serving::serve_folder;
+use crate::tasks::{NoTask, Task};
 use crate::telling::note_over;
 use check_monitor::Alarm;
 use desk_keeper::{Keeper, KeptDesk};
 use desk_ports::Disk;
-use desk_server::{ClientDuty, Notes, Unrecorded};
+use desk_server::{ClientHandler, Notes, Unrecorded};
 use folder_runs::ending_of_mount;
 use link_ports::{Dial, Door, Gate, Link, Net};
 use run_endings::Ending;
@@ -50,33 +50,33 @@ where
         (disk_seen D.state D.moment D.left_since D.faults disk.new)
         (N.faults net.old) (N.faults net.new) (N.closed net.old) (N.closed net.new) }
 {
-    let Ok(duties) = unrecorded(alloc, workers) else {
+    let Ok(handlers) = unrecorded(alloc, workers) else {
         return Ending::Memory;
     };
     let run = run_service(
         rt,
         alloc,
         workers,
-        duties,
+        handlers,
         disk,
         net,
         gate,
         notes,
         &Alarm::new(),
-        &mut NoChore,
+        &mut NoTask,
     );
     run.ending
 }
 
 // Nothing to do beside, for each of so many workers.
 fn unrecorded(alloc: Global, workers: u32) -> Result<Vec<Unrecorded>, AllocError>
-    ensures { IfOk result (λ duties. length duties.items ≡ workers) }
+    ensures { IfOk result (λ handlers. length handlers.items ≡ workers) }
 {
-    let mut duties = Vec::with_capacity(alloc, workers as usize)?;
+    let mut handlers = Vec::with_capacity(alloc, workers as usize)?;
     for _ in 0..workers {
-        duties.push(Unrecorded)?;
+        handlers.push(Unrecorded)?;
     }
-    Ok(duties)
+    Ok(handlers)
 }
 
 /// How a service ended; and what has become of what its workers of clients did beside, in their order, where there was
@@ -84,30 +84,30 @@ fn unrecorded(alloc: Global, workers: u32) -> Result<Vec<Unrecorded>, AllocError
 #[derive(Drop)]
 pub struct ServiceRun<X: Drop> {
     pub ending: Ending,
-    pub duties: Option<Vec<X>>,
+    pub handlers: Option<Vec<X>>,
 }
 
-/// Serves as `run_serve` does, by a worker of clients for each of these duties, which does that beside answering, and
-/// does the chore in turns meanwhile, on one more thread, which the alarm wakes. It may wait.
+/// Serves as `run_serve` does, by a worker of clients for each of these handlers, which does that beside answering, and
+/// does the task in turns meanwhile, on one more thread, which the alarm wakes. It may wait.
 pub fn run_service<
     R: Threads + Wait + Clock + Sync,
     D: Disk,
     N: Net + Send,
     G: Gate + Sync,
     T: Notes + Sync,
-    X: ClientDuty + Send,
-    C: Chore + Send,
+    X: ClientHandler + Send,
+    C: Task + Send,
 >(
     rt: &R,
     alloc: Global,
     workers: u32,
-    duties: Vec<X>,
+    handlers: Vec<X>,
     disk: &mut D,
     net: &mut N,
     gate: &G,
     notes: &T,
     alarm: &Alarm,
-    chore: &mut C,
+    task: &mut C,
 ) -> ServiceRun<X>
 where
     N::Door: Send,
@@ -117,18 +117,18 @@ where
     <<N as Dial>::Link as Link>::End: Send,
     requires some { 0 < workers }
     requires most { workers ≤ 64 }
-    requires duties { length duties.items ≡ workers }
+    requires handlers { length handlers.items ≡ workers }
     ensures runs { (left : Option (List X.State))
         × RunsServe X.seat_of (X.visits N.Door.Link.traffic N.Door.Link.marks N.Door.Link.faults)
         N.Door.Link.traffic N.Door.Link.marks N.Door.Link.faults N.Door.given_back N.Door.faults N.Door.kind
-        (states_of X.state (new_seats workers) duties.items) left result.ending
+        (states_of X.state (new_seats workers) handlers.items) left result.ending
         (disk_seen D.state D.moment D.left_since D.faults disk.old)
         (disk_seen D.state D.moment D.left_since D.faults disk.new)
         (N.faults net.old) (N.faults net.new) (N.closed net.old) (N.closed net.new)
-        × AreLeftOf X.state (λ now. now.items) result.duties left }
-    ensures chore { OnSome result.duties ((turns : ℕ) × C.goes chore.old turns chore.new) }
-    ensures undone { IfNone result.duties (IsUndone result.ending) }
-    ensures untouched { IfNone result.duties (chore.new ≡ chore.old) }
+        × AreLeftOf X.state (λ now. now.items) result.handlers left }
+    ensures task { OnSome result.handlers ((turns : ℕ) × C.goes task.old turns task.new) }
+    ensures undone { IfNone result.handlers (IsUndone result.ending) }
+    ensures untouched { IfNone result.handlers (task.new ≡ task.old) }
 {
     let disk_faults = disk.faults();
     let net_faults = net.faults();
@@ -137,7 +137,7 @@ where
         Err(refusal) => {
             return ServiceRun {
                 ending: ending_of_mount(refusal),
-                duties: None,
+                handlers: None,
             };
         }
     };
@@ -146,13 +146,13 @@ where
         rt,
         alloc,
         workers,
-        duties,
+        handlers,
         &mut keeper,
         net,
         gate,
         notes,
         alarm,
-        chore,
+        task,
     );
     let _ = keeper.into_disk();
     note_over(notes);
@@ -161,7 +161,7 @@ where
         Err(ending) => {
             return ServiceRun {
                 ending,
-                duties: None,
+                handlers: None,
             };
         }
     };
@@ -175,6 +175,6 @@ where
     );
     ServiceRun {
         ending,
-        duties: Some(met.duties),
+        handlers: Some(met.handlers),
     }
 }

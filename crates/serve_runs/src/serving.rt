@@ -7,22 +7,22 @@ ghost use Rattle.state_list.specs.Opening.{book_of};
 ghost use Rattle.live_roll.specs.Events.{NoneBelow};
 ghost use Rattle.live_desk.specs.History.{last_commit};
 ghost use Rattle.live_desk.specs.Seat.{new_seats};
-ghost use Rattle.serve_runs.specs.Crew.{posts_with};
-ghost use Rattle.serve_runs.specs.Duties.{states_of};
+ghost use Rattle.serve_runs.specs.Pool.{posts_with};
+ghost use Rattle.serve_runs.specs.Handlers.{states_of};
 ghost use Rattle.serve_runs.specs.Serving.{EndsUnopened, ClosesOpened};
-ghost use Rattle.serve_runs.specs.parts.Crews.{post_at, HasWorked};
-ghost use Rattle.serve_runs.specs.parts.Officiating.{Knocks, Officiates, Staffs};
+ghost use Rattle.serve_runs.specs.parts.Pools.{post_at, HasWorked};
+ghost use Rattle.serve_runs.specs.parts.Administering.{Knocks, Administers, RunsWorkers};
 
 use crate::beside::beside;
-use crate::chores::Chore;
-use crate::crews::{Station, Worker, compare, lacked_memory, stations_of};
 use crate::doors::{close_doors, open, open_doors};
 use crate::endings::{is_alone, lacks_memory};
 use crate::musters::Muster;
+use crate::pools::{Station, Worker, compare, lacked_memory, stations_of};
+use crate::tasks::Task;
 use check_monitor::Alarm;
 use desk_keeper::Keeper;
 use desk_ports::Disk;
-use desk_server::{ClientDuty, Notes, WorkerEnd};
+use desk_server::{ClientHandler, Notes, WorkerEnd};
 use desk_state::Desk;
 use link_ports::{Dial, Door, DoorKind, Gate, HangEnd, Link, Net};
 use live_desk::{Event, Events, Front, Naming, Opened, Publisher, Seat, start};
@@ -41,11 +41,11 @@ use std::time::Clock;
 pub(crate) struct Met<X: Drop> {
     pub lacked_memory: bool,
     pub alone: bool,
-    pub duties: Vec<X>,
+    pub handlers: Vec<X>,
 }
 
-/// Serves over the folder of the keeper, by a worker of clients for each of these duties, until the service is stopped,
-/// and does the chore in turns meanwhile. What was met, or why nobody was served. The list of published states and the
+/// Serves over the folder of the keeper, by a worker of clients for each of these handlers, until the service is
+/// stopped, and does the task in turns meanwhile. What was met, or why nobody was served. The list of published states and the
 /// log of the roll are opened here.
 pub(crate) fn serve_folder<
     R: Threads + Wait + Clock + Sync,
@@ -53,19 +53,19 @@ pub(crate) fn serve_folder<
     N: Net + Send,
     G: Gate + Sync,
     T: Notes + Sync,
-    X: ClientDuty + Send,
-    C: Chore + Send,
+    X: ClientHandler + Send,
+    C: Task + Send,
 >(
     rt: &R,
     alloc: Global,
     workers: u32,
-    duties: Vec<X>,
+    handlers: Vec<X>,
     keeper: &mut Keeper<'_, D>,
     net: &mut N,
     gate: &G,
     notes: &T,
     alarm: &Alarm,
-    chore: &mut C,
+    task: &mut C,
 ) -> Result<Met<X>, Ending>
 where
     N::Door: Send,
@@ -75,19 +75,20 @@ where
     <<N as Dial>::Link as Link>::End: Send,
     requires some { 0 < workers }
     requires most { workers ≤ 64 }
-    requires duties { length duties.items ≡ workers }
+    requires handlers { length handlers.items ≡ workers }
     ensures served { MatchResult result
-        (λ met. Staffs X.state X.seat_of (X.visits N.Door.Link.traffic N.Door.Link.marks N.Door.Link.faults)
+        (λ met. RunsWorkers X.state X.seat_of (X.visits N.Door.Link.traffic N.Door.Link.marks N.Door.Link.faults)
         D.faults D.state D.moment D.left_since N.Door.Link.traffic N.Door.Link.marks N.Door.Link.faults
         N.Door.given_back N.Door.faults N.Door.kind
-        (posts_with (states_of X.state (new_seats workers) duties.items)) met.duties.items met.lacked_memory met.alone
+        (posts_with (states_of X.state (new_seats workers) handlers.items))
+        met.handlers.items met.lacked_memory met.alone
         keeper.old keeper.new (N.faults net.old) (N.faults net.new) (N.closed net.old) (N.closed net.new))
         (λ ending. EndsUnopened ending (N.faults net.old) (N.faults net.new)) }
     ensures closed { OnErr result (ClosesOpened N.Door.kind (N.closed net.old) (N.closed net.new)) }
     ensures kept { OnErr result (keeper.new ≡ keeper.old) }
     ensures same_disk { IsSameDisk keeper.old keeper.new }
-    ensures chore { OnOk result ((turns : ℕ) × C.goes chore.old turns chore.new) }
-    ensures untouched { OnErr result (chore.new ≡ chore.old) }
+    ensures task { OnOk result ((turns : ℕ) × C.goes task.old turns task.new) }
+    ensures untouched { OnErr result (task.new ≡ task.old) }
 {
     serve_named::<Brand, R, D, N, G, T, X, C>(
         rt,
@@ -95,13 +96,13 @@ where
         Opened::new(),
         Opened::new(),
         workers,
-        duties,
+        handlers,
         keeper,
         net,
         gate,
         notes,
         alarm,
-        chore,
+        task,
     )
 }
 
@@ -114,21 +115,21 @@ fn serve_named<
     N: Net + Send,
     G: Gate + Sync,
     T: Notes + Sync,
-    X: ClientDuty + Send,
-    C: Chore + Send,
+    X: ClientHandler + Send,
+    C: Task + Send,
 >(
     rt: &R,
     alloc: Global,
     opened: Opened<Desk>,
     happened: Opened<Event>,
     workers: u32,
-    duties: Vec<X>,
+    handlers: Vec<X>,
     keeper: &mut Keeper<'_, D>,
     net: &mut N,
     gate: &G,
     notes: &T,
     alarm: &Alarm,
-    chore: &mut C,
+    task: &mut C,
 ) -> Result<Met<X>, Ending>
 where
     N::Door: Send,
@@ -140,19 +141,20 @@ where
     requires log { book_of happened ≡ J.events }
     requires some { 0 < workers }
     requires most { workers ≤ 64 }
-    requires duties { length duties.items ≡ workers }
+    requires handlers { length handlers.items ≡ workers }
     ensures served { MatchResult result
-        (λ met. Staffs X.state X.seat_of (X.visits N.Door.Link.traffic N.Door.Link.marks N.Door.Link.faults)
+        (λ met. RunsWorkers X.state X.seat_of (X.visits N.Door.Link.traffic N.Door.Link.marks N.Door.Link.faults)
         D.faults D.state D.moment D.left_since N.Door.Link.traffic N.Door.Link.marks N.Door.Link.faults
         N.Door.given_back N.Door.faults N.Door.kind
-        (posts_with (states_of X.state (new_seats workers) duties.items)) met.duties.items met.lacked_memory met.alone
+        (posts_with (states_of X.state (new_seats workers) handlers.items))
+        met.handlers.items met.lacked_memory met.alone
         keeper.old keeper.new (N.faults net.old) (N.faults net.new) (N.closed net.old) (N.closed net.new))
         (λ ending. EndsUnopened ending (N.faults net.old) (N.faults net.new)) }
     ensures closed { OnErr result (ClosesOpened N.Door.kind (N.closed net.old) (N.closed net.new)) }
     ensures kept { OnErr result (keeper.new ≡ keeper.old) }
     ensures same_disk { IsSameDisk keeper.old keeper.new }
-    ensures chore { OnOk result ((turns : ℕ) × C.goes chore.old turns chore.new) }
-    ensures untouched { OnErr result (chore.new ≡ chore.old) }
+    ensures task { OnOk result ((turns : ℕ) × C.goes task.old turns task.new) }
+    ensures untouched { OnErr result (task.new ≡ task.old) }
 {
     let Ok((publisher, seats, roll)) = start::<J, _, R>(
         rt,
@@ -165,35 +167,35 @@ where
         return Err(Ending::Memory);
     };
     let mut publisher = publisher;
-    let served = staff(
+    let served = run_workers(
         rt,
         alloc,
         workers,
         keeper,
         &mut publisher,
         seats,
-        duties,
+        handlers,
         roll,
         net,
         gate,
         notes,
         alarm,
-        chore,
+        task,
     );
     publisher.end(rt);
     served
 }
 
 // The same, with the seats and the roll of a state that was just published.
-fn staff<
+fn run_workers<
     R: Threads + Wait + Clock + Sync,
     J: Naming + Send + Sync,
     D: Disk,
     N: Net + Send,
     G: Gate + Sync,
     T: Notes + Sync,
-    X: ClientDuty + Send,
-    C: Chore + Send,
+    X: ClientHandler + Send,
+    C: Task + Send,
 >(
     rt: &R,
     alloc: Global,
@@ -201,13 +203,13 @@ fn staff<
     keeper: &mut Keeper<'_, D>,
     publisher: &mut Publisher<J>,
     seats: Vec<Seat<J>>,
-    duties: Vec<X>,
+    handlers: Vec<X>,
     roll: Roll<<<N::Door as Door>::Link as Link>::End, J>,
     net: &mut N,
     gate: &G,
     notes: &T,
     alarm: &Alarm,
-    chore: &mut C,
+    task: &mut C,
 ) -> Result<Met<X>, Ending>
 where
     N::Door: Send,
@@ -216,36 +218,37 @@ where
     <N as Dial>::Link: Send,
     <<N as Dial>::Link as Link>::End: Send,
     requires published { publisher.old ≡ keeper.old.desk ∷ [] }
-    requires seats { length duties.items ≡ length seats.items }
+    requires seats { length handlers.items ≡ length seats.items }
     ensures served { MatchResult result
-        (λ met. Staffs X.state X.seat_of (X.visits N.Door.Link.traffic N.Door.Link.marks N.Door.Link.faults)
+        (λ met. RunsWorkers X.state X.seat_of (X.visits N.Door.Link.traffic N.Door.Link.marks N.Door.Link.faults)
         D.faults D.state D.moment D.left_since N.Door.Link.traffic N.Door.Link.marks N.Door.Link.faults
         N.Door.given_back N.Door.faults N.Door.kind
-        (posts_with (states_of X.state seats.items duties.items)) met.duties.items met.lacked_memory met.alone
+        (posts_with (states_of X.state seats.items handlers.items))
+        met.handlers.items met.lacked_memory met.alone
         keeper.old keeper.new (N.faults net.old) (N.faults net.new) (N.closed net.old) (N.closed net.new))
         (λ ending. EndsUnopened ending (N.faults net.old) (N.faults net.new)) }
     ensures closed { OnErr result (ClosesOpened N.Door.kind (N.closed net.old) (N.closed net.new)) }
     ensures kept { OnErr result (keeper.new ≡ keeper.old) }
     ensures same_disk { IsSameDisk keeper.old keeper.new }
-    ensures chore { OnOk result ((turns : ℕ) × C.goes chore.old turns chore.new) }
-    ensures untouched { OnErr result (chore.new ≡ chore.old) }
+    ensures task { OnOk result ((turns : ℕ) × C.goes task.old turns task.new) }
+    ensures untouched { OnErr result (task.new ≡ task.old) }
 {
-    let Ok(stations) = stations_of(alloc, seats, duties) else {
+    let Ok(stations) = stations_of(alloc, seats, handlers) else {
         return Err(Ending::Memory);
     };
-    let Ok(crew) = Vec::with_capacity(alloc, stations.len()) else {
+    let Ok(pool) = Vec::with_capacity(alloc, stations.len()) else {
         return Err(Ending::Memory);
     };
     let Ok(room) = Vec::with_capacity(alloc, stations.len()) else {
         return Err(Ending::Memory);
     };
     open_and_serve(
-        rt, alloc, clients, keeper, publisher, stations, crew, room, roll, net, gate, notes, alarm,
-        chore,
+        rt, alloc, clients, keeper, publisher, stations, pool, room, roll, net, gate, notes, alarm,
+        task,
     )
 }
 
-// Opens the doors, serves, and closes them. The list of the crew, and that of what its workers of clients do beside,
+// Opens the doors, serves, and closes them. The list of the pool, and that of what its workers of clients do beside,
 // have room.
 fn open_and_serve<
     R: Threads + Wait + Clock + Sync,
@@ -254,8 +257,8 @@ fn open_and_serve<
     N: Net + Send,
     G: Gate + Sync,
     T: Notes + Sync,
-    X: ClientDuty + Send,
-    C: Chore + Send,
+    X: ClientHandler + Send,
+    C: Task + Send,
 >(
     rt: &R,
     alloc: Global,
@@ -263,14 +266,14 @@ fn open_and_serve<
     keeper: &mut Keeper<'_, D>,
     publisher: &mut Publisher<J>,
     stations: Vec<Station<J, X>>,
-    crew: Vec<Worker<J, N::Door, X>>,
+    pool: Vec<Worker<J, N::Door, X>>,
     room: Vec<X>,
     roll: Roll<<<N::Door as Door>::Link as Link>::End, J>,
     net: &mut N,
     gate: &G,
     notes: &T,
     alarm: &Alarm,
-    chore: &mut C,
+    task: &mut C,
 ) -> Result<Met<X>, Ending>
 where
     N::Door: Send,
@@ -279,49 +282,49 @@ where
     <N as Dial>::Link: Send,
     <<N as Dial>::Link as Link>::End: Send,
     requires published { publisher.old ≡ keeper.old.desk ∷ [] }
-    requires nobody { crew.items ≡ [] }
-    requires places { length stations.items ≤ vec_capacity crew }
+    requires nobody { pool.items ≡ [] }
+    requires places { length stations.items ≤ vec_capacity pool }
     requires empty { room.items ≡ [] }
     requires room { vec_len room + length stations.items ≤ vec_capacity room }
     ensures served { MatchResult result
-        (λ met. Staffs X.state X.seat_of (X.visits N.Door.Link.traffic N.Door.Link.marks N.Door.Link.faults)
+        (λ met. RunsWorkers X.state X.seat_of (X.visits N.Door.Link.traffic N.Door.Link.marks N.Door.Link.faults)
         D.faults D.state D.moment D.left_since N.Door.Link.traffic N.Door.Link.marks N.Door.Link.faults
         N.Door.given_back N.Door.faults N.Door.kind
-        (map (post_at X.state) stations.items) met.duties.items met.lacked_memory met.alone
+        (map (post_at X.state) stations.items) met.handlers.items met.lacked_memory met.alone
         keeper.old keeper.new (N.faults net.old) (N.faults net.new) (N.closed net.old) (N.closed net.new))
         (λ ending. EndsUnopened ending (N.faults net.old) (N.faults net.new)) }
     ensures closed { OnErr result (ClosesOpened N.Door.kind (N.closed net.old) (N.closed net.new)) }
     ensures kept { OnErr result (keeper.new ≡ keeper.old) }
     ensures same_disk { IsSameDisk keeper.old keeper.new }
-    ensures chore { OnOk result ((turns : ℕ) × C.goes chore.old turns chore.new) }
-    ensures untouched { OnErr result (chore.new ≡ chore.old) }
+    ensures task { OnOk result ((turns : ℕ) × C.goes task.old turns task.new) }
+    ensures untouched { OnErr result (task.new ≡ task.old) }
 {
-    let mut crew = crew;
+    let mut pool = pool;
     let mut door = match open(net, DoorKind::Admin) {
         Ok(door) => door,
         Err(ending) => return Err(ending),
     };
-    if let Err(ending) = open_doors(net, stations, &mut crew) {
+    if let Err(ending) = open_doors(net, stations, &mut pool) {
         net.close(door);
-        close_doors(net, room, crew);
+        close_doors(net, room, pool);
         return Err(ending);
     }
     let mut hangs = roll.known().again();
     let (end, events) = serve(
-        rt, alloc, clients, keeper, publisher, &mut crew, roll, &mut hangs, net, &mut door, gate,
-        notes, alarm, chore,
+        rt, alloc, clients, keeper, publisher, &mut pool, roll, &mut hangs, net, &mut door, gate,
+        notes, alarm, task,
     );
-    compare(rt, publisher, &events, &hangs, &crew);
+    compare(rt, publisher, &events, &hangs, &pool);
     net.close(door);
-    let lacked = lacked_memory(&crew);
+    let lacked = lacked_memory(&pool);
     Ok(Met {
         lacked_memory: lacks_memory(lacked, end),
         alone: is_alone(end),
-        duties: close_doors(net, room, crew),
+        handlers: close_doors(net, room, pool),
     })
 }
 
-// Serves at open doors: the crew on threads, and the administrators on this one. How their worker ended, and what
+// Serves at open doors: the pool on threads, and the administrators on this one. How their worker ended, and what
 // happened in the roll.
 fn serve<
     R: Threads + Wait + Clock + Sync,
@@ -331,15 +334,15 @@ fn serve<
     N: Net + Send,
     G: Gate + Sync,
     T: Notes + Sync,
-    X: ClientDuty + Send,
-    C: Chore + Send,
+    X: ClientHandler + Send,
+    C: Task + Send,
 >(
     rt: &R,
     alloc: Global,
     clients: u32,
     keeper: &mut Keeper<'_, D>,
     publisher: &mut Publisher<J>,
-    crew: &mut [Worker<J, E, X>],
+    pool: &mut [Worker<J, E, X>],
     roll: Roll<<E::Link as Link>::End, J>,
     hangs: &mut Front<Event, Events<J>>,
     net: &mut N,
@@ -347,7 +350,7 @@ fn serve<
     gate: &G,
     notes: &T,
     alarm: &Alarm,
-    chore: &mut C,
+    task: &mut C,
 ) -> (WorkerEnd, Front<Event, Events<J>>)
 where
     E::Link: Send,
@@ -358,14 +361,14 @@ where
     <N as Dial>::Link: Send,
     <<N as Dial>::Link as Link>::End: Send,
     requires { last_commit 0 publisher.old ≤ keeper.old.desk.commit }
-    ensures officiates { Officiates D.faults D.state D.moment D.left_since E.Link.traffic E.Link.marks E.Link.faults
+    ensures administers { Administers D.faults D.state D.moment D.left_since E.Link.traffic E.Link.marks E.Link.faults
         E.given_back E.faults E.kind result.0
         keeper.old keeper.new publisher.old publisher.new door.old door.new hangs.new }
     ensures none_below { NoneBelow result.1 }
     ensures knocks { Knocks N.faults N.closed net.old net.new }
-    ensures chore { (turns : ℕ) × C.goes chore.old turns chore.new }
+    ensures task { (turns : ℕ) × C.goes task.old turns task.new }
     ensures workers { AllZip (HasWorked X.state (X.visits E.Link.traffic E.Link.marks E.Link.faults)
-        E.Link.traffic E.Link.marks E.Link.faults E.given_back E.faults E.kind) crew.old crew.new }
+        E.Link.traffic E.Link.marks E.Link.faults E.given_back E.faults E.kind) pool.old pool.new }
 {
     let roll = Mutex::new(roll);
     let questions = QuestionDesk::new(alloc);
@@ -375,8 +378,8 @@ where
             E.Link.traffic E.Link.marks E.Link.faults E.given_back E.faults E.kind worker.entry.now worker.exit.now }
     { worker.work(rt, alloc, &roll, &questions, &muster, alarm, gate, notes) };
     let end = beside(
-        rt, alloc, clients, crew, &each, keeper, publisher, &roll, &questions, hangs, &muster,
-        alarm, net, door, notes, chore,
+        rt, alloc, clients, pool, &each, keeper, publisher, &roll, &questions, hangs, &muster,
+        alarm, net, door, notes, task,
     );
     let events = happened(rt, &roll);
     (end, events)

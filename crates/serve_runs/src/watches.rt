@@ -1,11 +1,11 @@
-// What one thread of a service does beside its workers: it does the chore, and wakes all workers once the service is
+// What one thread of a service does beside its workers: it does the task, and wakes all workers once the service is
 // stopped.
 ghost use Rattle.std.specs.Prelude.{◌≤◌, ℕ};
-ghost use Rattle.serve_runs.specs.parts.Officiating.{Knocks};
+ghost use Rattle.serve_runs.specs.parts.Administering.{Knocks};
 
-use crate::chores::{Chore, Turn};
 use crate::doors::knock_all;
 use crate::musters::Muster;
+use crate::tasks::{Task, Turn};
 use check_monitor::Alarm;
 use link_ports::Net;
 use server_hall::QuestionDesk;
@@ -19,42 +19,37 @@ const TICK: u64 = 100;
 /// How long it lets work gather behind a turn that did some, in milliseconds.
 const PAUSE: u64 = 1;
 
-/// Does the chore in turns until the service is stopped, and then wakes all workers that wait at their doors, so many
+/// Does the task in turns until the service is stopped, and then wakes all workers that wait at their doors, so many
 /// of clients among them. Where there is no service it does nothing. It may wait.
-pub(crate) fn keep_watch<R: Wait + Clock, N: Net, C: Chore>(
+pub(crate) fn keep_watch<R: Wait + Clock, N: Net, C: Task>(
     rt: &R,
     clients: u32,
     questions: &QuestionDesk,
     muster: &Muster,
     alarm: &Alarm,
     net: &mut N,
-    chore: &mut C,
+    task: &mut C,
 )
     ensures knocks { Knocks N.faults N.closed net.old net.new }
-    ensures chore { (turns : ℕ) × C.goes chore.old turns chore.new }
+    ensures task { (turns : ℕ) × C.goes task.old turns task.new }
 {
     if !muster.begin(rt) {
         return;
     }
-    watch_on(rt, questions, alarm, chore);
+    watch_on(rt, questions, alarm, task);
     knock_all(net, clients);
 }
 
-// Does the chore in turns until the service is stopped.
-fn watch_on<R: Wait + Clock, C: Chore>(
-    rt: &R,
-    questions: &QuestionDesk,
-    alarm: &Alarm,
-    chore: &mut C,
-)
-    ensures { (turns : ℕ) × (1 ≤ turns) × C.goes chore.old turns chore.new }
+// Does the task in turns until the service is stopped.
+fn watch_on<R: Wait + Clock, C: Task>(rt: &R, questions: &QuestionDesk, alarm: &Alarm, task: &mut C)
+    ensures { (turns : ℕ) × (1 ≤ turns) × C.goes task.old turns task.new }
 {
     let mut last = Turn::Idle;
     for _ in rt.forever() {
         if last == Turn::Idle {
             alarm.arm();
         }
-        let turn = chore.turn(rt);
+        let turn = task.turn(rt);
         if questions.is_stopped(rt) {
             return;
         }

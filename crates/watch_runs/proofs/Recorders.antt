@@ -25,9 +25,9 @@ use Rattle.monitor_journal.proofs.Lines.{known-more}
 use Rattle.monitor_journal.proofs.Writes.{writes_then}
 use Rattle.desk_server.specs.Monitored.{Post, post_of, VisitsWatched}
 use Rattle.desk_server.proofs.Watched.{visits_record}
-use Rattle.serve_runs.specs.Duties.{states_of, AreLeftOf}
+use Rattle.serve_runs.specs.Handlers.{states_of, AreLeftOf}
 use Rattle.serve_runs.specs.Run.{RunsServe}
-use Rattle.serve_runs.proofs.Crewing.{seats_are}
+use Rattle.serve_runs.proofs.Pooling.{seats_are}
 use Rattle.serve_runs.proofs.Left.{CameTo, all_left}
 use Rattle.watch_runs.specs.Watching.{new_posts, recorders_of, Journaled, ending_with}
 
@@ -76,8 +76,8 @@ recorders_given (s ∷ seats) (r ∷ recorders) long =
     ap (λ (list : List RecorderState). r ∷ list) (recorders_given seats recorders (omega (arith, long)))
 
 -- what has become of the posts, where there was a service
-pub left_some : {V : Type 0} (P : Option (List Post) → Type 0) (items : V → List RecorderState) (duties : Option V) (found : V)
-    (left : Option (List Post)) → duties ≡ Some found → AreLeftOf post_of items duties left → P left
+pub left_some : {V : Type 0} (P : Option (List Post) → Type 0) (items : V → List RecorderState) (handlers : Option V) (found : V)
+    (left : Option (List Post)) → handlers ≡ Some found → AreLeftOf post_of items handlers left → P left
     → (posts : List Post) × P (Some posts) × (recorders_of posts ≡ items found)
 left_some P items (Some other) found (Some posts) is (seats, long, are) holds =
     let same : other ≡ found = cc in (
@@ -88,8 +88,8 @@ left_some P items (Some other) found (Some posts) is (seats, long, are) holds =
 left_some P items (Some other) found None is are holds = absurd are
 left_some P items None found left is are holds = let wrong : ⊥ = cc in absurd wrong
 
-pub left_none : {V : Type 0} (P : Option (List Post) → Type 0) (items : V → List RecorderState) (duties : Option V)
-    (left : Option (List Post)) → duties ≡ None → AreLeftOf post_of items duties left → P left → P None
+pub left_none : {V : Type 0} (P : Option (List Post) → Type 0) (items : V → List RecorderState) (handlers : Option V)
+    (left : Option (List Post)) → handlers ≡ None → AreLeftOf post_of items handlers left → P left → P None
 left_none P items None None is are holds = holds
 left_none P items None (Some posts) is are holds = absurd are
 left_none P items (Some other) left is are holds = let wrong : ⊥ = cc in absurd wrong

@@ -6,7 +6,7 @@ use check_monitor::Reader;
 use desk_ports::{Bytes, Sink};
 use desk_server::Notes;
 use monitor_journal::{Writing, hand_on};
-use serve_runs::{Chore, Turn};
+use serve_runs::{Task, Turn};
 use std::alloc::Global;
 use std::sync::Wait;
 use std::time::Clock;
@@ -60,7 +60,7 @@ impl<'k, K: Sink, T: Notes> Journal<'k, K, T> {
 }
 
 /// In each turn what was recorded is written, at most 1,024 lines.
-impl<'k, K: Sink, T: Notes> Chore for Journal<'k, K, T> {
+impl<'k, K: Sink, T: Notes> Task for Journal<'k, K, T> {
     ghost use Rattle.std.specs.Prelude.{◌≡◌, refl};
     ghost use Rattle.std.proofs.Common.{◌∙◌};
     ghost use Rattle.run_endings.specs.Outside.{sink_seen};

@@ -7,7 +7,7 @@ ghost use Rattle.monitor_journal.specs.declared.writing.Writing.TheVariants.{Goe
 ghost use Rattle.monitor_journal.specs.Journal.{Journals};
 ghost use Rattle.check_monitor.specs.Monitor.{IsSame};
 ghost use Rattle.desk_server.specs.Monitored.{Post, post_of, VisitsWatched};
-ghost use Rattle.serve_runs.specs.Duties.{states_of};
+ghost use Rattle.serve_runs.specs.Handlers.{states_of};
 ghost use Rattle.serve_runs.specs.Run.{RunsServe};
 ghost use Rattle.watch_runs.specs.Watching.{recorders_of, RunsWatch};
 
@@ -158,10 +158,10 @@ where
         alarm,
         &mut journal,
     );
-    let ServiceRun { ending, duties } = run;
+    let ServiceRun { ending, handlers } = run;
     let (reader, writing, lent) = journal.into_parts();
     let _ = lent;
-    match duties {
+    match handlers {
         Some(recorders) => Ok(Watched {
             ending,
             recorders,

@@ -13,7 +13,7 @@ use Rattle.admin_door.specs.Hanging.{AreHung}
 use Rattle.live_roll.specs.declared.events.Event.{Event}
 use Rattle.server_hall.specs.StopNews.{StopsTold}
 use Rattle.desk_server.specs.Visit.{Visit, IsFresh, InTurn, GivesBack, GoesOnTold, Works, door_faults_after}
-use Rattle.desk_server.specs.Administrators.{Office, office_of, VisitsOffice, EndsOffice}
+use Rattle.desk_server.specs.Administrators.{AdminState, admin_state_of, VisitsAdministrators, EndsAdministrators}
 use Rattle.desk_server.specs.declared.workers.WorkerEnd.{WorkerEnd}
 use Rattle.desk_server.specs.declared.workers.WorkerEnd.TheVariants.{DoorFailed, Memory}
 
@@ -40,35 +40,39 @@ module _ {D L : Type 0} (faults : D → ℕ) (state : D → Option DiskState) (m
     (traffic : L → Option Traffic) (marks : L → LinkMarks) (link_faults : L → ℕ) where
   -- Since the first keeper their worker has done so much, and goes on; and what a stop may leave in the folder is told
   -- of the frames that came, and which disconnects stand in a front of the roll's log.
-  abbrev pub HoldsOffice : Keeper D → Office → Option (List L) → ℕ → StopsTold → Keeper D → List DeskState
+  abbrev pub HoldsAdminState : Keeper D → AdminState → Option (List L) → ℕ → StopsTold → Keeper D → List DeskState
       → Option (List L) → ℕ
       → StopsTold → List Event → Type 0
-  HoldsOffice first start given count told keeper published given_now count_now told_now hangs =
+  HoldsAdminState first start given count told keeper published given_now count_now told_now hangs =
       (frames : List Exchange)
-      × SoFar (VisitsOffice traffic marks link_faults) (GoesOnTold told told_now) marks link_faults start
-      (office_of faults keeper published frames)
+      × SoFar (VisitsAdministrators traffic marks link_faults) (GoesOnTold told told_now) marks link_faults start
+      (admin_state_of faults keeper published frames)
       given given_now count count_now
       × RunsOver state moment left_since first keeper frames × AreHung hangs frames
 
   -- the same, and it has ended so
-  abbrev pub EndsHolding : WorkerEnd → Keeper D → Office → Option (List L) → ℕ → StopsTold → Keeper D → List DeskState
+  abbrev pub EndsHolding : WorkerEnd → Keeper D → AdminState → Option (List L) → ℕ → StopsTold → Keeper D
+      → List DeskState
       → Option (List L) → ℕ → StopsTold → List Event → Type 0
   EndsHolding end first start given count told keeper published given_now count_now told_now hangs =
       (frames : List Exchange)
-      × Works (VisitsOffice traffic marks link_faults) (EndsOffice told told_now) marks link_faults end start
-      (office_of faults keeper published frames) given given_now count count_now
+      × Works (VisitsAdministrators traffic marks link_faults)
+      (EndsAdministrators told told_now) marks link_faults end start
+      (admin_state_of faults keeper published frames) given given_now count count_now
       × RunsOver state moment left_since first keeper frames × AreHung hangs frames
 
   -- from wherever it began, it goes on or has ended behind one more connection
-  abbrev pub TurnsOffice : Result (Unit {0}) WorkerEnd → Keeper D → List DeskState → Option (List L) → ℕ → StopsTold
+  abbrev pub TurnsAdminState : Result (Unit {0}) WorkerEnd → Keeper D → List DeskState → Option (List L) → ℕ → StopsTold
       → List Event
       → Keeper D
       → List DeskState → Option (List L) → ℕ → StopsTold → List Event → Type 0
-  TurnsOffice result keeper published given_old count_old told_old hangs keeper_now published_now given_now count_now
+  TurnsAdminState result keeper published given_old count_old told_old hangs keeper_now published_now given_now
+      count_now
       told_now hangs_now =
-      (first : Keeper D) (start : Office) (given : Option (List L)) (count : ℕ) (told : StopsTold)
-      → HoldsOffice first start given count told keeper published given_old count_old told_old hangs
+      (first : Keeper D) (start : AdminState) (given : Option (List L)) (count : ℕ) (told : StopsTold)
+      → HoldsAdminState first start given count told keeper published given_old count_old told_old hangs
       → MatchResult result
-      (λ done. HoldsOffice first start given count told keeper_now published_now given_now count_now told_now hangs_now)
+      (λ done. HoldsAdminState first start given count told keeper_now published_now given_now count_now told_now
+      hangs_now)
       (λ end. EndsHolding end first start given count told keeper_now published_now given_now count_now told_now
       hangs_now)

@@ -1,5 +1,5 @@
 use Rattle.std.proofs.Common.{◌≡◌}
-use Rattle.serve_runs.specs.parts.Officiating.{Knocks}
+use Rattle.serve_runs.specs.parts.Administering.{Knocks}
 use Rattle.serve_runs.proofs.doors.knock.Given as goal
 
 abbrev pub invariant-loop : goal.invariant-loop

@@ -1,7 +1,7 @@
 use Rattle.std.proofs.Common.{rules, length, ap, sym, subst, ◌++◌, ◌∷◌, [], arith}
 use Rattle.std.specs.List.{AllZip}
-use Rattle.serve_runs.specs.parts.Crews.{StandsAt}
-use Rattle.serve_runs.proofs.Crewing.{zip_push}
+use Rattle.serve_runs.specs.parts.Pools.{StandsAt}
+use Rattle.serve_runs.proofs.Pooling.{zip_push}
 use Rattle.serve_runs.proofs.doors.open_doors.Goals as goal
 
 pub returns-in-Err-clause-few : goal.returns-in-Err-clause-few
@@ -20,7 +20,7 @@ loop-station-preserved g c =
       capacity = omega (arith, c.loop-station.invariant.capacity, c.open_one.ensures.capacity);
       stand = subst (λ list. AllZip (StandsAt g.N.Door.Door.given_back g.N.Door.Door.faults g.N.Door.Door.kind)
           (c.loop-station.yielded ++ c.in-Some.station ∷ []) list) (sym items)
-          (zip_push _ c.loop-station.yielded c.loop-station.crew.items c.in-Some.station worker c.loop-station.invariant.stand stands);
+          (zip_push _ c.loop-station.yielded c.loop-station.pool.items c.in-Some.station worker c.loop-station.invariant.stand stands);
     }
 
 pub returns-clause-few : goal.returns-clause-few

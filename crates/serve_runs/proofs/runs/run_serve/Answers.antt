@@ -4,7 +4,7 @@ use Rattle.desk_server.specs.Clients.{VisitsClients}
 use Rattle.run_endings.specs.Outside.{disk_seen}
 use Rattle.serve_runs.specs.Run.{RunsServe}
 use Rattle.serve_runs.proofs.Folder.{refuses-early}
-use Rattle.serve_runs.proofs.Crewing.{seats_are, plain_states}
+use Rattle.serve_runs.proofs.Pooling.{seats_are, plain_states}
 use Rattle.serve_runs.proofs.runs.run_serve.Goals as goal
 
 pub returns-in_default : goal.returns-in_default
@@ -29,6 +29,6 @@ returns g c =
           (disk_seen g.D.Disk.state g.D.Disk.moment g.D.Disk.left_since g.D.Disk.faults c.run_service-run.new.disk)
           (g.N.Dial.faults c.args.net.now) (g.N.Dial.faults c.run_service-run.new.net)
           (g.N.Net.closed c.args.net.now) (g.N.Net.closed c.run_service-run.new.net))
-          (plain_states (new_seats c.args.workers) c.in-Ok.duties.items (c.in-Ok.ensures ∙ sym (seats_are c.args.workers)))
+          (plain_states (new_seats c.args.workers) c.in-Ok.handlers.items (c.in-Ok.ensures ∙ sym (seats_are c.args.workers)))
           runs.1,
     )

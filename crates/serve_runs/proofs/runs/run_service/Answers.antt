@@ -10,9 +10,9 @@ use Rattle.desk_keeper.specs.declared.keeper.Keeper.{Keeper}
 use Rattle.admin_door.specs.Running.{RunsOver}
 use Rattle.admin_door.proofs.Running.{runs-none}
 use Rattle.desk_server.specs.Visit.{Works}
-use Rattle.desk_server.specs.Administrators.{Office, VisitsOffice, EndsOffice, office_of}
+use Rattle.desk_server.specs.Administrators.{AdminState, VisitsAdministrators, EndsAdministrators, admin_state_of}
 use Rattle.folder_runs.proofs.Mounting.{refuses-folder, refuses-count}
-use Rattle.serve_runs.specs.Crew.{ends_of, left_by}
+use Rattle.serve_runs.specs.Pool.{ends_of, left_by}
 use Rattle.serve_runs.specs.Serving.{opening}
 use Rattle.serve_runs.specs.Run.{RunsServe}
 use Rattle.serve_runs.proofs.Concluding.{concludes, mount_undone, unopened_undone}
@@ -57,41 +57,41 @@ returns-clause-runs g c =
     let last = c.serve_folder-served.new.keeper in
     let of = c.of-keeper.ensures in
     let found = c.in-Ok.ensures in
-    let staffs = c.in-Ok-served.ensures.served in
+    let runs_workers = c.in-Ok-served.ensures.served in
     let count : g.D.Disk.faults (disk_of first) ≡ g.D.Disk.faults c.args.disk.now = ap g.D.Disk.faults of.disk ∙ found.count in
-    let opens : office_of g.D.Disk.faults first (first.desk ∷ []) [] ≡ opening first.desk (g.D.Disk.faults c.args.disk.now) =
+    let opens : admin_state_of g.D.Disk.faults first (first.desk ∷ []) [] ≡ opening first.desk (g.D.Disk.faults c.args.disk.now) =
     λ i. record { desk = first.desk; decided = of.decided i; published = first.desk ∷ []; faults = count i; frames = [] } in
     let final : last.vault.disk.now ≡ c.disk-1.given.0 = search rules in
-    let works = subst (λ (start : Office). Works
-    (VisitsOffice g.N.Door.Link.Link.traffic g.N.Door.Link.Link.marks g.N.Door.Link.Link.faults) (EndsOffice unasked staffs.told)
-    g.N.Door.Link.Link.marks g.N.Door.Link.Link.faults staffs.end start
-    (office_of g.D.Disk.faults last staffs.published staffs.frames)
-    staffs.given (g.N.Door.Door.given_back staffs.door) 0 (g.N.Door.Door.faults staffs.door))
-    opens staffs.works in
-    let keeps = keeps_service g.D.Disk.state g.D.Disk.moment g.D.Disk.left_since g.D.Disk.faults c.args.disk.now first last staffs.frames
-    (rw of.desk found.desk) (rw (of.desk, of.held, of.disk) found.settled) (rw of.disk found.moments) staffs.runs in
+    let works = subst (λ (start : AdminState). Works
+    (VisitsAdministrators g.N.Door.Link.Link.traffic g.N.Door.Link.Link.marks g.N.Door.Link.Link.faults) (EndsAdministrators unasked runs_workers.told)
+    g.N.Door.Link.Link.marks g.N.Door.Link.Link.faults runs_workers.end start
+    (admin_state_of g.D.Disk.faults last runs_workers.published runs_workers.frames)
+    runs_workers.given (g.N.Door.Door.given_back runs_workers.door) 0 (g.N.Door.Door.faults runs_workers.door))
+    opens runs_workers.works in
+    let keeps = keeps_service g.D.Disk.state g.D.Disk.moment g.D.Disk.left_since g.D.Disk.faults c.args.disk.now first last runs_workers.frames
+    (rw of.desk found.desk) (rw (of.desk, of.held, of.disk) found.settled) (rw of.disk found.moments) runs_workers.runs in
     rw (sym final) (
-      Some (left_by staffs.crew),
+      Some (left_by runs_workers.pool),
       RunsServe.served first.desk
           (record {
-            end = staffs.end;
-            last = office_of g.D.Disk.faults last staffs.published staffs.frames;
-            given = staffs.given;
-            door = staffs.door;
-            is_theirs = staffs.is_theirs;
-            unused = staffs.unused;
-            told = staffs.told;
+            end = runs_workers.end;
+            last = admin_state_of g.D.Disk.faults last runs_workers.published runs_workers.frames;
+            given = runs_workers.given;
+            door = runs_workers.door;
+            is_theirs = runs_workers.is_theirs;
+            unused = runs_workers.unused;
+            told = runs_workers.told;
             works = works;
             counted = refl;
-            events = staffs.events;
-            none_below = staffs.none_below;
-            hung = staffs.hung;
-            crew = staffs.crew;
-            serves = staffs.serves;
-            doors = staffs.doors;
-            ends = concludes c.ending_of-ending.result c.in-Ok-served.met.lacked_memory c.in-Ok-served.met.alone (staffs.end ∷ ends_of staffs.crew)
+            events = runs_workers.events;
+            none_below = runs_workers.none_below;
+            hung = runs_workers.hung;
+            pool = runs_workers.pool;
+            serves = runs_workers.serves;
+            doors = runs_workers.doors;
+            ends = concludes c.ending_of-ending.result c.in-Ok-served.met.lacked_memory c.in-Ok-served.met.alone (runs_workers.end ∷ ends_of runs_workers.pool)
                 (g.D.Disk.faults c.args.disk.now) (g.D.Disk.faults last.vault.disk.now) (g.N.Dial.faults c.args.net.now) (g.N.Dial.faults c.serve_folder-served.new.net)
-                staffs.memory staffs.deserted staffs.failed
+                runs_workers.memory runs_workers.deserted runs_workers.failed
                 (rw (
                   c.faults-disk_faults.ensures,
                   c.faults.ensures,
@@ -106,11 +106,11 @@ returns-clause-runs g c =
             published-made g.N.Door.Link.Link.traffic g.N.Door.Link.Link.marks g.N.Door.Link.Link.faults entry
                 (disk_seen g.D.Disk.state g.D.Disk.moment g.D.Disk.left_since g.D.Disk.faults c.args.disk.now)
                 (disk_seen g.D.Disk.state g.D.Disk.moment g.D.Disk.left_since g.D.Disk.faults (disk_of last))
-                first.desk (office_of g.D.Disk.faults last staffs.published staffs.frames) (g.D.Disk.faults c.args.disk.now) staffs.end
-                (EndsOffice unasked staffs.told)
-                staffs.given (g.N.Door.Door.given_back staffs.door) (g.N.Door.Door.faults staffs.door) works (keeps entry told),
+                first.desk (admin_state_of g.D.Disk.faults last runs_workers.published runs_workers.frames) (g.D.Disk.faults c.args.disk.now) runs_workers.end
+                (EndsAdministrators unasked runs_workers.told)
+                runs_workers.given (g.N.Door.Door.given_back runs_workers.door) (g.N.Door.Door.faults runs_workers.door) works (keeps entry told),
           )),
-      staffs.left,
+      runs_workers.left,
     )
 
 pub returns-in-Err-clause-undone : goal.returns-in-Err-clause-undone

@@ -2,7 +2,7 @@ use Rattle.std.proofs.Common.{◌+◌, arith}
 use Rattle.serve_runs.proofs.watches.watch_on.Goals as goal
 
 pub loop-init : goal.loop-init
-loop-init g c = (tt, (tt, (0, g.met.C.Chore.stays c.args.chore.now)))
+loop-init g c = (tt, (tt, (0, g.met.C.Task.stays c.args.task.now)))
 
 pub loop-preserved : goal.loop-preserved
 loop-preserved g c = (
@@ -11,7 +11,7 @@ loop-preserved g c = (
     tt,
     (
       c.loop.invariant.1.1.0 + 1,
-      g.met.C.Chore.goes_further c.args.chore.now c.loop.chore _ c.loop.invariant.1.1.0 1 c.loop.invariant.1.1.1
+      g.met.C.Task.goes_further c.args.task.now c.loop.task _ c.loop.invariant.1.1.0 1 c.loop.invariant.1.1.1
           c.turn-turn.ensures,
     ),
   ),
@@ -21,5 +21,5 @@ pub returns-then-is_stopped : goal.returns-then-is_stopped
 returns-then-is_stopped g c = (
   c.loop.invariant.1.1.0 + 1,
   omega arith,
-  g.met.C.Chore.goes_further c.args.chore.now c.loop.chore _ c.loop.invariant.1.1.0 1 c.loop.invariant.1.1.1 c.turn-turn.ensures,
+  g.met.C.Task.goes_further c.args.task.now c.loop.task _ c.loop.invariant.1.1.0 1 c.loop.invariant.1.1.1 c.turn-turn.ensures,
 )

@@ -5,4 +5,4 @@ abbrev pub invariant-loop : goal.invariant-loop
 invariant-loop g l =
     (goal.iterator-loop g).can_next l.iterator'
     × ((goal.iterator-loop g).is_finite l.iterator'
-    × ((turns : ℕ) × g.C.Chore.goes l.fn.chore turns l.chore))
+    × ((turns : ℕ) × g.C.Task.goes l.fn.task turns l.task))

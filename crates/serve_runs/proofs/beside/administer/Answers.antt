@@ -2,7 +2,7 @@ use Rattle.std.proofs.Common.{[], refl, sym, append-nil}
 use Rattle.server_hall.specs.StopNews.{unasked}
 use Rattle.desk_keeper.specs.Keeper.{disk_of}
 use Rattle.admin_door.proofs.Running.{runs-none}
-use Rattle.serve_runs.proofs.beside.officiate.Goals as goal
+use Rattle.serve_runs.proofs.beside.administer.Goals as goal
 
 pub returns-then-not-decide : goal.returns-then-not-decide
 returns-then-not-decide g c =

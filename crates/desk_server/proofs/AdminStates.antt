@@ -9,14 +9,14 @@ use Rattle.admin_door.specs.Serving.{Exchange, talk_of}
 use Rattle.admin_door.specs.Running.{TellsEach}
 use Rattle.admin_door.proofs.Reaching.{Reaches, serves-holds}
 use Rattle.desk_server.specs.Visit.{Visit, InTurn}
-use Rattle.desk_server.specs.Administrators.{Office, VisitsOffice, side_in}
+use Rattle.desk_server.specs.Administrators.{AdminState, VisitsAdministrators, side_in}
 
 module _ {L : Type 0} (traffic : L → Option Traffic) (marks : L → LinkMarks) (faults : L → ℕ) where
   -- the frames of a connection come behind those of before
-  frames-grow : (start : Office) (visits : List (Visit L)) (now : Office)
-      → InTurn (VisitsOffice traffic marks faults) start visits now
+  frames-grow : (start : AdminState) (visits : List (Visit L)) (now : AdminState)
+      → InTurn (VisitsAdministrators traffic marks faults) start visits now
       → (more : List Exchange) × (now.frames ≡ start.frames ++ more)
-  frames-grow start [] now is = ([], ap (λ (office : Office). office.frames) is ∙ sym (append-nil start.frames))
+  frames-grow start [] now is = ([], ap (λ (admin_state : AdminState). admin_state.frames) is ∙ sym (append-nil start.frames))
   frames-grow start (visit ∷ visits) now (between, (silent, (tally, served)), others) =
       let (more, is) = frames-grow between visits now others in
       let came : List Exchange = served.answered ++ served.last in (
@@ -26,14 +26,14 @@ module _ {L : Type 0} (traffic : L → Option Traffic) (marks : L → LinkMarks)
 
   module _ (before : DiskState) (last : DeskState) (first : List DeskState) (all : List Exchange)
       (tells : TellsEach before all) where
-    pub office-holds : (start : Office) (visits : List (Visit L)) (now : Office) (rest : List Exchange)
-        → InTurn (VisitsOffice traffic marks faults) start visits now → all ≡ now.frames ++ rest
+    pub admin_state-holds : (start : AdminState) (visits : List (Visit L)) (now : AdminState) (rest : List Exchange)
+        → InTurn (VisitsAdministrators traffic marks faults) start visits now → all ≡ now.frames ++ rest
         → Reaches before last first all start.frames start.desk start.published
         → Reaches before last first all now.frames now.desk now.published
-    office-holds start [] now rest is cut holds =
-        subst (λ (office : Office). Reaches before last first all office.frames office.desk office.published) (sym is)
+    admin_state-holds start [] now rest is cut holds =
+        subst (λ (admin_state : AdminState). Reaches before last first all admin_state.frames admin_state.desk admin_state.published) (sym is)
         holds
-    office-holds start (visit ∷ visits) now rest (between, (silent, (tally, served)), others) cut holds =
+    admin_state-holds start (visit ∷ visits) now rest (between, (silent, (tally, served)), others) cut holds =
         let (more, is) = frames-grow between visits now others in
         let came : List Exchange = served.answered ++ served.last in
         let cut_here : all ≡ start.frames ++ (came ++ (more ++ rest)) =
@@ -46,6 +46,6 @@ module _ {L : Type 0} (traffic : L → Option Traffic) (marks : L → LinkMarks)
         (talk_of (side_in between tally) (traffic visit.returned) (marks visit.returned) (faults visit.returned))
         visit.ended
         (λ exchanges. between.frames ≡ start.frames ++ exchanges) served start.frames (more ++ rest) cut_here holds in
-        office-holds between visits now rest others cut
+        admin_state-holds between visits now rest others cut
         (subst (λ (frames : List Exchange). Reaches before last first all frames between.desk between.published)
         (sym served.keeps) next)

@@ -2,20 +2,20 @@
 use Rattle.std.specs.Prelude.{◌≡◌, List, [], ◌∷◌, length, Option, Some, None}
 use Rattle.live_desk.specs.Seat.{SeatState}
 
--- of each of these seats with the duty of the same place
+-- of each of these seats with the handler of the same place
 abbrev pub states_of : {X S : Type 0} → (SeatState → X → S) → List SeatState → List X → List S
 states_of state seats [] = []
-states_of state [] (duty ∷ duties) = []
-states_of state (seat ∷ seats) (duty ∷ duties) = state seat duty ∷ states_of state seats duties
+states_of state [] (handler ∷ handlers) = []
+states_of state (seat ∷ seats) (handler ∷ handlers) = state seat handler ∷ states_of state seats handlers
 
--- of some seats, as many as there are duties
+-- of some seats, as many as there are handlers
 abbrev pub AreStatesOf : {X S : Type 0} → (SeatState → X → S) → List X → List S → Type 0
-AreStatesOf state duties states =
-    (seats : List SeatState) × (length seats ≡ length duties) × (states ≡ states_of state seats duties)
+AreStatesOf state handlers states =
+    (seats : List SeatState) × (length seats ≡ length handlers) × (states ≡ states_of state seats handlers)
 
 -- the same, where there are any
 abbrev pub AreLeftOf : {X S V : Type 0} → (SeatState → X → S) → (V → List X) → Option V → Option (List S) → Type 0
 AreLeftOf state items None None = Unit {0}
-AreLeftOf state items (Some duties) (Some states) = AreStatesOf state (items duties) states
+AreLeftOf state items (Some handlers) (Some states) = AreStatesOf state (items handlers) states
 AreLeftOf state items None (Some states) = ⊥
-AreLeftOf state items (Some duties) None = ⊥
+AreLeftOf state items (Some handlers) None = ⊥

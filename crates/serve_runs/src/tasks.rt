@@ -4,7 +4,7 @@ ghost use Rattle.std.specs.Prelude.{◌+◌, ℕ};
 use std::sync::Wait;
 use std::time::Clock;
 
-/// What a turn of a chore met.
+/// What a turn of a task met.
 #[derive(Clone, Copy, Debug, PartialEq, Eq)]
 pub enum Turn {
     /// Nothing was there to do.
@@ -16,7 +16,7 @@ pub enum Turn {
 }
 
 /// What a thread of a service does in turns while the service goes on, beside its connections.
-pub trait Chore {
+pub trait Task {
     /// What it may have become after so many turns, where it was this before.
     ghost goes: { Self → ℕ → Self → Type 0 };
 
@@ -25,7 +25,7 @@ pub trait Chore {
         ensures { goes self.old 1 self.new };
 
     /// It was not done meanwhile.
-    ghost stays: { (chore : Self) → goes chore 0 chore };
+    ghost stays: { (task : Self) → goes task 0 task };
 
     /// It was done in two spans of time, one behind the other.
     ghost goes_further: { (first between last : Self) (some more : ℕ)
@@ -34,16 +34,16 @@ pub trait Chore {
 
 /// Nothing is done.
 #[derive(Clone, Copy, Debug)]
-pub struct NoChore;
+pub struct NoTask;
 
-impl Chore for NoChore {
+impl Task for NoTask {
     ghost goes = { λ old turns new. Unit {0} };
 
     fn turn<R: Wait + Clock>(&mut self, _rt: &R) -> Turn {
         Turn::Idle
     }
 
-    ghost stays = { λ chore. tt };
+    ghost stays = { λ task. tt };
 
     ghost goes_further = { λ first between last some more one then. tt };
 }

@@ -1,5 +1,5 @@
-use Rattle.serve_runs.proofs.Crewing.{agents_more}
-use Rattle.serve_runs.proofs.crews.put_agents.Goals as goal
+use Rattle.serve_runs.proofs.Pooling.{agents_more}
+use Rattle.serve_runs.proofs.pools.put_agents.Goals as goal
 
 pub loop-preserved : goal.loop-preserved
 loop-preserved g c =

@@ -17,16 +17,16 @@ use Rattle.desk_server.specs.Visit.{Visit, Works, EndsWorking, door_faults_after
 use Rattle.desk_server.specs.Agents.{VisitsAgents}
 use Rattle.desk_server.specs.declared.workers.WorkerEnd.{WorkerEnd}
 use Rattle.desk_server.specs.declared.workers.WorkerEnd.TheVariants.{Stopped, DoorFailed, Memory, Alone, Unstarted}
-use Rattle.serve_runs.specs.Crew.{EndedWorker, ends_of, doors_of, left_by, lacks_memory, is_alone, is_deserted, kind_for, posts_with}
-use Rattle.serve_runs.specs.Crew.{WorksFor, Serves}
-use Rattle.serve_runs.specs.Duties.{states_of, AreStatesOf}
+use Rattle.serve_runs.specs.Pool.{EndedWorker, ends_of, doors_of, left_by, lacks_memory, is_alone, is_deserted, kind_for, posts_with}
+use Rattle.serve_runs.specs.Pool.{WorksFor, Serves}
+use Rattle.serve_runs.specs.Handlers.{states_of, AreStatesOf}
 use Rattle.serve_runs.specs.Serving.{HasRisen}
-use Rattle.serve_runs.specs.declared.crews.Station.{Station}
-use Rattle.serve_runs.specs.declared.crews.Station.TheVariants.{Clients, Agents}
-use Rattle.serve_runs.specs.declared.crews.Worker.{Worker}
-use Rattle.serve_runs.specs.parts.Crews.{duty_at, seat_at, post_at, stations_with, duties_in, duty_of, duties_of, door_of, lacked}
-use Rattle.serve_runs.specs.parts.Crews.{worker_lacked}
-use Rattle.serve_runs.specs.parts.Crews.{CountsDoor, StandsAt, WorksAt, HasWorked, HasSeenOf, SawOnly}
+use Rattle.serve_runs.specs.declared.pools.Station.{Station}
+use Rattle.serve_runs.specs.declared.pools.Station.TheVariants.{Clients, Agents}
+use Rattle.serve_runs.specs.declared.pools.Worker.{Worker}
+use Rattle.serve_runs.specs.parts.Pools.{handler_at, seat_at, post_at, stations_with, handlers_in, handler_of, handlers_of, door_of, lacked}
+use Rattle.serve_runs.specs.parts.Pools.{worker_lacked}
+use Rattle.serve_runs.specs.parts.Pools.{CountsDoor, StandsAt, WorksAt, HasWorked, HasSeenOf, SawOnly}
 
 -- ---- stations
 
@@ -36,23 +36,23 @@ seats_are zero = refl
 seats_are (suc count) =
     length-append (new_seats count) (new_seat count ∷ []) ∙ (let is = seats_are count in omega (arith, is))
 
--- what the stations hand on is that of the seats and duties
-pub posts_given : {S : Type 0} (J X : Type 0) (state : SeatState → X → S) (seats : List SeatState) (duties : List X)
-    → map (post_at {J = J} state) (stations_with seats duties) ≡ posts_with (states_of state seats duties)
+-- what the stations hand on is that of the seats and handlers
+pub posts_given : {S : Type 0} (J X : Type 0) (state : SeatState → X → S) (seats : List SeatState) (handlers : List X)
+    → map (post_at {J = J} state) (stations_with seats handlers) ≡ posts_with (states_of state seats handlers)
 posts_given J X state [] [] = refl
-posts_given J X state [] (duty ∷ duties) = refl
+posts_given J X state [] (handler ∷ handlers) = refl
 posts_given J X state (seat ∷ seats) [] = refl
-posts_given {S} J X state (seat ∷ seats) (duty ∷ duties) =
-    ap (λ (list : List (Option S)). Some (state seat duty) ∷ list) (posts_given J X state seats duties)
+posts_given {S} J X state (seat ∷ seats) (handler ∷ handlers) =
+    ap (λ (list : List (Option S)). Some (state seat handler) ∷ list) (posts_given J X state seats handlers)
 
 -- where nothing but the seats is handed on
-pub plain_states : {X : Type 0} (seats : List SeatState) (duties : List X) → length duties ≡ length seats
-    → states_of (λ seat duty. seat) seats duties ≡ seats
+pub plain_states : {X : Type 0} (seats : List SeatState) (handlers : List X) → length handlers ≡ length seats
+    → states_of (λ seat handler. seat) seats handlers ≡ seats
 plain_states [] [] long = refl
-plain_states [] (duty ∷ duties) long = refl
+plain_states [] (handler ∷ handlers) long = refl
 plain_states (seat ∷ seats) [] long = absurd (omega (arith, long))
-plain_states (seat ∷ seats) (duty ∷ duties) long =
-    ap (λ (list : List SeatState). seat ∷ list) (plain_states seats duties (omega (arith, long)))
+plain_states (seat ∷ seats) (handler ∷ handlers) long =
+    ap (λ (list : List SeatState). seat ∷ list) (plain_states seats handlers (omega (arith, long)))
 
 -- one more for agents
 pub agents_more : {J X : Type 0} (start stations after : List (Station J X)) (count : ℕ) → stations ≡ start ++ replicate count Agents
@@ -91,25 +91,25 @@ went R x y argument after is left call = subst (λ b. R x b) left (subst (λ a. 
 
 -- ---- one worker more
 
-in_more : {X : Type 0} (some more : List (Option X)) → duties_in (some ++ more) ≡ duties_in some ++ duties_in more
+in_more : {X : Type 0} (some more : List (Option X)) → handlers_in (some ++ more) ≡ handlers_in some ++ handlers_in more
 in_more [] more = refl
 in_more (None ∷ some) more = in_more some more
-in_more (Some duty ∷ some) more = ap (λ list. duty ∷ list) (in_more some more)
+in_more (Some handler ∷ some) more = ap (λ list. handler ∷ list) (in_more some more)
 
-in_one : {X : Type 0} (duty : Option X) → duties_in (duty ∷ []) ≡ option_to_list duty
+in_one : {X : Type 0} (handler : Option X) → handlers_in (handler ∷ []) ≡ option_to_list handler
 in_one None = refl
-in_one (Some duty) = refl
+in_one (Some handler) = refl
 
-pub duties_push : {J E X : Type 0} (crew : List (Worker J E X)) (worker : Worker J E X)
-    → duties_of (crew ++ worker ∷ []) ≡ duties_of crew ++ option_to_list (duty_of worker)
-duties_push {J} {E} {X} crew worker =
-    ap (λ (list : List (Option X)). duties_in list) (map-append (λ (w : Worker J E X). duty_of w) crew (worker ∷ []))
-    ∙ (in_more (map (λ (w : Worker J E X). duty_of w) crew) (duty_of worker ∷ [])
-    ∙ ap (λ (list : List X). duties_of crew ++ list) (in_one (duty_of worker)))
+pub handlers_push : {J E X : Type 0} (pool : List (Worker J E X)) (worker : Worker J E X)
+    → handlers_of (pool ++ worker ∷ []) ≡ handlers_of pool ++ option_to_list (handler_of worker)
+handlers_push {J} {E} {X} pool worker =
+    ap (λ (list : List (Option X)). handlers_in list) (map-append (λ (w : Worker J E X). handler_of w) pool (worker ∷ []))
+    ∙ (in_more (map (λ (w : Worker J E X). handler_of w) pool) (handler_of worker ∷ [])
+    ∙ ap (λ (list : List X). handlers_of pool ++ list) (in_one (handler_of worker)))
 
-pub doors_push : {J E X : Type 0} (crew : List (Worker J E X)) (worker : Worker J E X)
-    → map door_of (crew ++ worker ∷ []) ≡ map door_of crew ++ door_of worker ∷ []
-doors_push {J} {E} {X} crew worker = map-append (λ (w : Worker J E X). door_of w) crew (worker ∷ [])
+pub doors_push : {J E X : Type 0} (pool : List (Worker J E X)) (worker : Worker J E X)
+    → map door_of (pool ++ worker ∷ []) ≡ map door_of pool ++ door_of worker ∷ []
+doors_push {J} {E} {X} pool worker = map-append (λ (w : Worker J E X). door_of w) pool (worker ∷ [])
 
 -- ---- all workers
 
@@ -119,7 +119,7 @@ module _ {S L J E X : Type 0} (state : SeatState → X → S) (visits : S → Vi
   -- A worker that is not started leaves its station and its door as they were.
   pub unstarted : (station : Station J X) (door : E) (told : StopsTold)
       → WorksAt state visits traffic marks faults given_back door_faults Unstarted station station door door told told
-  unstarted (Clients seat duty) door told =
+  unstarted (Clients seat handler) door told =
       record {
         visits = [];
         fresh = tt;
@@ -139,7 +139,7 @@ module _ {S L J E X : Type 0} (state : SeatState → X → S) (visits : S → Vi
       }
 
 module _ {S L J E X : Type 0} (state : SeatState → X → S) (seat_of : S → SeatState)
-    (seat_is : (seat : SeatState) (duty : X) → seat_of (state seat duty) ≡ seat) (visits : S → Visit L → S → Type 0)
+    (seat_is : (seat : SeatState) (handler : X) → seat_of (state seat handler) ≡ seat) (visits : S → Visit L → S → Type 0)
     (traffic : L → Option Traffic) (marks : L → LinkMarks) (faults : L → ℕ)
     (given_back : E → Option (List L)) (door_faults : E → ℕ) (kind : E → Option DoorKind) (published : List DeskState)
     (events : List Event) where
@@ -148,20 +148,20 @@ module _ {S L J E X : Type 0} (state : SeatState → X → S) (seat_of : S → S
       → HasSeenOf published events (seat_at now)
       → WorksFor seat_of visits traffic marks faults given_back door_faults kind published events (post_at state station)
       (post_at state now) end told (given_back door) door_now
-  works_for (Clients seat duty) (Clients seat_now duty_now) end door door_now told fresh works saw = (
-    subst (λ (seat : SeatState). GoesOn seat.seen published) (sym (seat_is seat_now duty_now)) saw.0,
-    subst (λ (seat : SeatState). IsPrefix seat.events events) (sym (seat_is seat_now duty_now)) saw.1,
-    subst (λ (count : ℕ). Works visits (EndsWorking unasked told) marks faults end (state seat duty) (state seat_now duty_now)
+  works_for (Clients seat handler) (Clients seat_now handler_now) end door door_now told fresh works saw = (
+    subst (λ (seat : SeatState). GoesOn seat.seen published) (sym (seat_is seat_now handler_now)) saw.0,
+    subst (λ (seat : SeatState). IsPrefix seat.events events) (sym (seat_is seat_now handler_now)) saw.1,
+    subst (λ (count : ℕ). Works visits (EndsWorking unasked told) marks faults end (state seat handler) (state seat_now handler_now)
         (given_back door) (given_back door_now) count (door_faults door_now)) fresh works,
   )
   works_for Agents Agents end door door_now told fresh works saw =
       subst (λ (count : ℕ). Works (VisitsAgents traffic marks faults) (EndsWorking unasked told) marks faults end tt tt
       (given_back door) (given_back door_now) count (door_faults door_now)) fresh works
-  works_for (Clients seat duty) Agents end door door_now told fresh works saw = absurd works
-  works_for Agents (Clients seat duty) end door door_now told fresh works saw = absurd works
+  works_for (Clients seat handler) Agents end door door_now told fresh works saw = absurd works
+  works_for Agents (Clients seat handler) end door door_now told fresh works saw = absurd works
 
   kinds : (station : Station J X) → kind_for (seat_at station) ≡ kind_for (post_at state station)
-  kinds (Clients seat duty) = refl
+  kinds (Clients seat handler) = refl
   kinds Agents = refl
 
   serves_one : (station : Station J X) (opened now : Worker J E X) → StandsAt given_back door_faults kind station opened
@@ -179,26 +179,26 @@ module _ {S L J E X : Type 0} (state : SeatState → X → S) (seat_of : S → S
             opened.door now.door unasked worked.told) stands.station_is worked.works) saw;
       }
 
-  -- what a crew did that has ended
+  -- what a pool did that has ended
   pub record Ended (stations : List (Station J X)) (now : List (Worker J E X)) : Type 0 where
-    pub crew : List (EndedWorker S E)
+    pub pool : List (EndedWorker S E)
     pub serves : AllZip (Serves seat_of visits traffic marks faults given_back door_faults kind published events)
-        (map (post_at state) stations) crew
-    pub doors : doors_of crew ≡ map door_of now
-    pub lacks : lacks_memory (ends_of crew) ≡ list_any worker_lacked now
-    pub left : AreStatesOf state (duties_of now) (left_by crew)
+        (map (post_at state) stations) pool
+    pub doors : doors_of pool ≡ map door_of now
+    pub lacks : lacks_memory (ends_of pool) ≡ list_any worker_lacked now
+    pub left : AreStatesOf state (handlers_of now) (left_by pool)
 
-  left_one : (station : Station J X) (states : List S) (more : List (Option X)) → AreStatesOf state (duties_in more) states
-      → AreStatesOf state (duties_in (duty_at station ∷ more)) (option_to_list (post_at state station) ++ states)
-  left_one (Clients seat duty) states more (seats, long, is) =
-      (seat ∷ seats, ap (λ (n : ℕ). suc n) long, ap (λ (list : List S). state seat duty ∷ list) is)
+  left_one : (station : Station J X) (states : List S) (more : List (Option X)) → AreStatesOf state (handlers_in more) states
+      → AreStatesOf state (handlers_in (handler_at station ∷ more)) (option_to_list (post_at state station) ++ states)
+  left_one (Clients seat handler) states more (seats, long, is) =
+      (seat ∷ seats, ap (λ (n : ℕ). suc n) long, ap (λ (list : List S). state seat handler ∷ list) is)
   left_one Agents states more left = left
 
   pub all_ended : (stations : List (Station J X)) (opened now : List (Worker J E X))
       → AllZip (StandsAt given_back door_faults kind) stations opened
       → AllZip (HasWorked state visits traffic marks faults given_back door_faults kind) opened now
       → AllByRecursion (SawOnly published events) now → Ended stations now
-  all_ended [] [] [] stand worked saw = record { crew = []; serves = tt; doors = refl; lacks = refl; left = ([], refl, refl) }
+  all_ended [] [] [] stand worked saw = record { pool = []; serves = tt; doors = refl; lacks = refl; left = ([], refl, refl) }
   all_ended [] [] (w ∷ now) stand worked saw = absurd worked
   all_ended [] (o ∷ opened) now stand worked saw = absurd stand
   all_ended (s ∷ stations) [] now stand worked saw = absurd stand
@@ -206,11 +206,11 @@ module _ {S L J E X : Type 0} (state : SeatState → X → S) (seat_of : S → S
   all_ended (s ∷ stations) (o ∷ opened) (w ∷ now) (stands, stand) (worked, all) (saw, more) =
       let rest = all_ended stations opened now stand all more in
       record {
-        crew = record { end = worked.end; door = w.door; left = post_at state w.station } ∷ rest.crew;
+        pool = record { end = worked.end; door = w.door; left = post_at state w.station } ∷ rest.pool;
         serves = (serves_one s o w stands worked saw, rest.serves);
         doors = ap (λ (list : List E). w.door ∷ list) rest.doors;
         lacks = λ i. ap lacked (sym worked.ended) i || rest.lacks i;
-        left = left_one w.station (left_by rest.crew) (map duty_of now) rest.left;
+        left = left_one w.station (left_by rest.pool) (map handler_of now) rest.left;
       }
 
 -- by the worker of administrators alone
@@ -246,23 +246,23 @@ module _ {S L E : Type 0} (seat_of : S → SeatState) (visits : S → Visit L �
   never_alone post left Unstarted told given door works = refl
 
   -- no worker of clients or of agents ends alone
-  pub none_alone : (posts : List (Option S)) (crew : List (EndedWorker S E))
-      → AllZip (Serves seat_of visits traffic marks faults given_back door_faults kind published events) posts crew → is_deserted (ends_of crew) ≡ false
+  pub none_alone : (posts : List (Option S)) (pool : List (EndedWorker S E))
+      → AllZip (Serves seat_of visits traffic marks faults given_back door_faults kind published events) posts pool → is_deserted (ends_of pool) ≡ false
   none_alone [] [] serve = refl
-  none_alone [] (w ∷ crew) serve = absurd serve
+  none_alone [] (w ∷ pool) serve = absurd serve
   none_alone (post ∷ posts) [] serve = absurd serve
-  none_alone (post ∷ posts) (w ∷ crew) (serves, serve) =
-      λ i. never_alone post w.left w.end serves.told serves.given w.door serves.works i || none_alone posts crew serve i
+  none_alone (post ∷ posts) (w ∷ pool) (serves, serve) =
+      λ i. never_alone post w.left w.end serves.told serves.given w.door serves.works i || none_alone posts pool serve i
 
   -- Each door of a worker that ended since its door failed raised the count of its net.
-  pub failed_all : (posts : List (Option S)) (crew : List (EndedWorker S E))
-      → AllZip (Serves seat_of visits traffic marks faults given_back door_faults kind published events) posts crew
-      → AllByRecursion (λ (door : E). CountsDoor (door_faults door) before after) (doors_of crew)
-      → AllByRecursion (λ (end : WorkerEnd). end ≡ DoorFailed → HasRisen before after) (ends_of crew)
+  pub failed_all : (posts : List (Option S)) (pool : List (EndedWorker S E))
+      → AllZip (Serves seat_of visits traffic marks faults given_back door_faults kind published events) posts pool
+      → AllByRecursion (λ (door : E). CountsDoor (door_faults door) before after) (doors_of pool)
+      → AllByRecursion (λ (end : WorkerEnd). end ≡ DoorFailed → HasRisen before after) (ends_of pool)
   failed_all [] [] serve counts = tt
-  failed_all [] (w ∷ crew) serve counts = absurd serve
+  failed_all [] (w ∷ pool) serve counts = absurd serve
   failed_all (post ∷ posts) [] serve counts = absurd serve
-  failed_all (post ∷ posts) (w ∷ crew) (serves, serve) (counts, more) = (
+  failed_all (post ∷ posts) (w ∷ pool) (serves, serve) (counts, more) = (
     (λ is. counts (counted post w.left w.end serves.told serves.given w.door serves.works ∙ ap (λ (end : WorkerEnd). door_faults_after end 0) is)),
-    failed_all posts crew serve more,
+    failed_all posts pool serve more,
   )

@@ -34,14 +34,14 @@ pub record EndedWorker (S E : Type 0) : Type 0 where
   pub left : Option S
 
 abbrev pub ends_of : {S E : Type 0} → List (EndedWorker S E) → List WorkerEnd
-ends_of {S} {E} crew = map (λ (worker : EndedWorker S E). worker.end) crew
+ends_of {S} {E} pool = map (λ (worker : EndedWorker S E). worker.end) pool
 
 abbrev pub doors_of : {S E : Type 0} → List (EndedWorker S E) → List E
-doors_of {S} {E} crew = map (λ (worker : EndedWorker S E). worker.door) crew
+doors_of {S} {E} pool = map (λ (worker : EndedWorker S E). worker.door) pool
 
 -- what the workers of clients had at their ends, in their order
 abbrev pub left_by : {S E : Type 0} → List (EndedWorker S E) → List S
-left_by {S} {E} crew = flat_map (λ (worker : EndedWorker S E). option_to_list worker.left) crew
+left_by {S} {E} pool = flat_map (λ (worker : EndedWorker S E). option_to_list worker.left) pool
 
 -- an `accept` of a worker that ended so found no memory, or it had no thread
 abbrev pub is_lacking : WorkerEnd → Bool

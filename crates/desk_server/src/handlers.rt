@@ -17,7 +17,7 @@ use std::sync::{Mutex, Wait};
 use std::time::Clock;
 
 /// What a worker of clients does of each connection beside answering it.
-pub trait ClientDuty: Drop {
+pub trait ClientHandler: Drop {
     /// What its worker hands on from one connection to the next.
     ghost State: { Type 0 };
 
@@ -49,21 +49,21 @@ pub trait ClientDuty: Drop {
             (D.given_back door.old) (D.given_back door.new) (D.faults door.old) (D.faults door.new) }
         ensures kind { D.kind door.new ≡ D.kind door.old };
 
-    ghost seat_is: { (seat : SeatState) (duty : Self) → seat_of (state seat duty) ≡ seat };
+    ghost seat_is: { (seat : SeatState) (handler : Self) → seat_of (state seat handler) ≡ seat };
 }
 
 /// Nothing beside.
 #[derive(Debug, Drop)]
 pub struct Unrecorded;
 
-impl ClientDuty for Unrecorded {
+impl ClientHandler for Unrecorded {
     ghost use Rattle.std.specs.Prelude.{refl};
     ghost use Rattle.live_desk.specs.Seat.{SeatState};
     ghost use Rattle.desk_server.specs.Clients.{VisitsClients};
 
     ghost State = { SeatState };
 
-    ghost state = { λ seat duty. seat };
+    ghost state = { λ seat handler. seat };
 
     ghost seat_of = { λ seat. seat };
 
@@ -83,11 +83,11 @@ impl ClientDuty for Unrecorded {
         work_for_clients(rt, alloc, seat, roll, questions, door, gate, news)
     }
 
-    ghost seat_is = { λ seat duty. refl };
+    ghost seat_is = { λ seat handler. refl };
 }
 
 /// Its checks are recorded.
-impl ClientDuty for Recorder {
+impl ClientHandler for Recorder {
     ghost use Rattle.std.specs.Prelude.{refl};
     ghost use Rattle.desk_server.specs.Monitored.{Post, post_of, VisitsWatched};
 
@@ -113,5 +113,5 @@ impl ClientDuty for Recorder {
         work_for_monitored_clients(rt, alloc, seat, roll, questions, door, gate, self, news)
     }
 
-    ghost seat_is = { λ seat duty. refl };
+    ghost seat_is = { λ seat handler. refl };
 }

@@ -5,16 +5,16 @@ ghost use Rattle.std.specs.Bool.{OnTrue};
 ghost use mathlib.Core.List.{IsPrefix};
 ghost use Rattle.std.specs.List.{AllByRecursion, list_any};
 ghost use Rattle.std.specs.Option.{option_to_list};
-ghost use Rattle.serve_runs.specs.Crew.{kind_for};
-ghost use Rattle.serve_runs.specs.parts.Crews.{duty_at, duty_of, seat_at, stations_with, lacked, worker_lacked};
-ghost use Rattle.serve_runs.specs.parts.Crews.{WorksAt, HasWorked, HasSeenOf, SawOnly};
-ghost use Rattle.serve_runs.specs.declared.crews.Station.TheVariants.{Agents};
+ghost use Rattle.serve_runs.specs.Pool.{kind_for};
+ghost use Rattle.serve_runs.specs.parts.Pools.{handler_at, handler_of, seat_at, stations_with, lacked, worker_lacked};
+ghost use Rattle.serve_runs.specs.parts.Pools.{WorksAt, HasWorked, HasSeenOf, SawOnly};
+ghost use Rattle.serve_runs.specs.declared.pools.Station.TheVariants.{Agents};
 
 use crate::endings::lacks_memory;
 use crate::musters::Muster;
 use crate::telling::{note_alone, note_end};
 use check_monitor::Alarm;
-use desk_server::{ClientDuty, Notes, WorkerEnd, work_for_agents};
+use desk_server::{ClientHandler, Notes, WorkerEnd, work_for_agents};
 use link_ports::{Door, DoorKind, Gate, HangEnd, Link};
 use live_desk::{Event, Events, Front, Naming, Publisher, Seat};
 use live_roll::Roll;
@@ -43,7 +43,7 @@ pub(crate) struct Worker<J: Naming, D: Drop, X: Drop> {
     end: Option<WorkerEnd>,
 }
 
-impl<J: Naming, X: ClientDuty> Station<J, X> {
+impl<J: Naming, X: ClientHandler> Station<J, X> {
     // Serves one connection after the other at this door, or nobody where there is no service.
     fn work<R: Wait + Clock, D: Door, G: Gate>(
         &mut self,
@@ -84,8 +84,8 @@ impl<J: Naming, X: ClientDuty> Station<J, X> {
         ensures kind { D.kind door.new ≡ D.kind door.old }
     {
         match self {
-            Station::Clients(seat, duty) => {
-                duty.work(rt, alloc, seat, roll, questions, door, gate, news)
+            Station::Clients(seat, handler) => {
+                handler.work(rt, alloc, seat, roll, questions, door, gate, news)
             }
             Station::Agents => work_for_agents(rt, alloc, roll, questions, door, news),
         }
@@ -121,17 +121,17 @@ impl<J: Naming, X: ClientDuty> Station<J, X> {
     }
 
     // What is done beside serving clients, where it serves them.
-    fn into_duty(self) -> Option<X>
-        ensures { result ≡ duty_at self }
+    fn into_handler(self) -> Option<X>
+        ensures { result ≡ handler_at self }
     {
         match self {
-            Station::Clients(_, duty) => Some(duty),
+            Station::Clients(_, handler) => Some(handler),
             Station::Agents => None,
         }
     }
 }
 
-impl<J: Naming, D: Door, X: ClientDuty> Worker<J, D, X> {
+impl<J: Naming, D: Door, X: ClientHandler> Worker<J, D, X> {
     /// One of this station, at this door.
     pub fn at(station: Station<J, X>, door: D) -> Worker<J, D, X>
         ensures station { result.station ≡ station }
@@ -201,10 +201,10 @@ impl<J: Naming, D: Door, X: ClientDuty> Worker<J, D, X> {
     /// Its door, and what it does beside serving clients, where it serves them.
     pub fn leave(self) -> (D, Option<X>)
         ensures door { result.0 ≡ self.door }
-        ensures duty { result.1 ≡ duty_of self }
+        ensures handler { result.1 ≡ handler_of self }
     {
         let Worker { station, door, .. } = self;
-        (door, station.into_duty())
+        (door, station.into_handler())
     }
 }
 
@@ -229,23 +229,23 @@ fn stop<R: Wait + Clock, H: HangEnd, J: Naming>(
     alarm.ring();
 }
 
-/// A station for each of these seats with the duty of the same place, and those for agents.
-pub(crate) fn stations_of<J: Naming, X: ClientDuty>(
+/// A station for each of these seats with the handler of the same place, and those for agents.
+pub(crate) fn stations_of<J: Naming, X: ClientHandler>(
     alloc: Global,
     seats: Vec<Seat<J>>,
-    duties: Vec<X>,
+    handlers: Vec<X>,
 ) -> Result<Vec<Station<J, X>>, AllocError>
-    requires { length duties.items ≤ length seats.items }
-    ensures { IfOk result (λ stations. stations.items ≡ stations_with seats.items duties.items) }
+    requires { length handlers.items ≤ length seats.items }
+    ensures { IfOk result (λ stations. stations.items ≡ stations_with seats.items handlers.items) }
 {
-    let count = duties.len().saturating_add(AGENT_WORKERS as usize);
+    let count = handlers.len().saturating_add(AGENT_WORKERS as usize);
     let mut stations = Vec::with_capacity(alloc, count)?;
     let mut seats = seats.into_iter();
-    for duty in duties {
+    for handler in handlers {
         let Some(seat) = seats.next() else {
             unreachable!()
         };
-        stations.push(Station::Clients(seat, duty))?;
+        stations.push(Station::Clients(seat, handler))?;
     }
     match put_agents(&mut stations) {
         Ok(()) => Ok(stations),
@@ -254,7 +254,9 @@ pub(crate) fn stations_of<J: Naming, X: ClientDuty>(
 }
 
 // Puts the stations for agents behind the others.
-fn put_agents<J: Naming, X: ClientDuty>(stations: &mut Vec<Station<J, X>>) -> Result<(), AllocError>
+fn put_agents<J: Naming, X: ClientHandler>(
+    stations: &mut Vec<Station<J, X>>,
+) -> Result<(), AllocError>
     ensures { OnOk result (stations.new.items ≡ stations.old.items ++ replicate 9 Agents) }
 {
     for _ in 0..AGENT_WORKERS {
@@ -276,45 +278,45 @@ pub(crate) fn put<T: Drop>(list: &mut Vec<T>, value: T)
     }
 }
 
-/// Puts a duty behind the others, where there is one. The list has room for it.
-pub(crate) fn put_back<X: Drop>(duties: &mut Vec<X>, duty: Option<X>)
-    requires { vec_len duties.old < vec_capacity duties.old }
-    ensures items { duties.new.items ≡ duties.old.items ++ option_to_list duty }
-    ensures len { vec_len duties.new ≤ vec_len duties.old + 1 }
-    ensures capacity { vec_capacity duties.old ≤ vec_capacity duties.new }
+/// Puts a handler behind the others, where there is one. The list has room for it.
+pub(crate) fn put_back<X: Drop>(handlers: &mut Vec<X>, handler: Option<X>)
+    requires { vec_len handlers.old < vec_capacity handlers.old }
+    ensures items { handlers.new.items ≡ handlers.old.items ++ option_to_list handler }
+    ensures len { vec_len handlers.new ≤ vec_len handlers.old + 1 }
+    ensures capacity { vec_capacity handlers.old ≤ vec_capacity handlers.new }
 {
-    let Some(duty) = duty else {
+    let Some(handler) = handler else {
         return;
     };
-    match duties.push(duty) {
+    match handlers.push(handler) {
         Ok(()) => {}
         Err(_) => unreachable!(),
     }
 }
 
-/// Whether one of the crew found no memory at its door, or had no thread.
-pub(crate) fn lacked_memory<J: Naming, D: Door, X: ClientDuty>(crew: &[Worker<J, D, X>]) -> bool
-    ensures { result ≡ list_any worker_lacked crew.now }
+/// Whether one of the pool found no memory at its door, or had no thread.
+pub(crate) fn lacked_memory<J: Naming, D: Door, X: ClientHandler>(pool: &[Worker<J, D, X>]) -> bool
+    ensures { result ≡ list_any worker_lacked pool.now }
 {
-    crew.iter().any(|worker| worker.lacked_memory())
+    pool.iter().any(|worker| worker.lacked_memory())
 }
 
-/// Compares what the seats of the crew have seen with what was published, and what they and the administrators know of
+/// Compares what the seats of the pool have seen with what was published, and what they and the administrators know of
 /// the roll's log with these events; returns where none has seen or knows more. None can: but that only the publisher
 /// puts states into the list, and only the roll events into the log, is known of their code, and not by a proof. So a
 /// run of which that is wrong does not return, and one that returns has compared.
-pub(crate) fn compare<R: Wait, J: Naming, D: Door, X: ClientDuty>(
+pub(crate) fn compare<R: Wait, J: Naming, D: Door, X: ClientHandler>(
     rt: &R,
     publisher: &Publisher<J>,
     events: &Front<Event, Events<J>>,
     hangs: &Front<Event, Events<J>>,
-    crew: &[Worker<J, D, X>],
+    pool: &[Worker<J, D, X>],
 )
-    ensures crew { AllByRecursion (SawOnly publisher.now events.now) crew.now }
+    ensures pool { AllByRecursion (SawOnly publisher.now events.now) pool.now }
     ensures hangs { IsPrefix hangs.now events.now }
 {
     for _ in rt.forever() {
-        if is_one_log(publisher, events, hangs, crew) {
+        if is_one_log(publisher, events, hangs, pool) {
             return;
         }
     }
@@ -322,30 +324,30 @@ pub(crate) fn compare<R: Wait, J: Naming, D: Door, X: ClientDuty>(
 
 // Whether neither the administrators know more than these events, nor a seat, which has seen no more than was
 // published.
-fn is_one_log<J: Naming, D: Door, X: ClientDuty>(
+fn is_one_log<J: Naming, D: Door, X: ClientHandler>(
     publisher: &Publisher<J>,
     events: &Front<Event, Events<J>>,
     hangs: &Front<Event, Events<J>>,
-    crew: &[Worker<J, D, X>],
+    pool: &[Worker<J, D, X>],
 ) -> bool
-    ensures crew { OnTrue result (AllByRecursion (SawOnly publisher.now events.now) crew.now) }
+    ensures pool { OnTrue result (AllByRecursion (SawOnly publisher.now events.now) pool.now) }
     ensures hangs { OnTrue result (IsPrefix hangs.now events.now) }
 {
     if !events.covers(hangs) {
         return false;
     }
-    are_covered(publisher, events, crew)
+    are_covered(publisher, events, pool)
 }
 
 // Whether none of their seats has seen more than was published, or knows more than these events.
-fn are_covered<J: Naming, D: Door, X: ClientDuty>(
+fn are_covered<J: Naming, D: Door, X: ClientHandler>(
     publisher: &Publisher<J>,
     events: &Front<Event, Events<J>>,
-    crew: &[Worker<J, D, X>],
+    pool: &[Worker<J, D, X>],
 ) -> bool
-    ensures { OnTrue result (AllByRecursion (SawOnly publisher.now events.now) crew.now) }
+    ensures { OnTrue result (AllByRecursion (SawOnly publisher.now events.now) pool.now) }
 {
-    for worker in crew {
+    for worker in pool {
         if !worker.is_covered(publisher, events) {
             return false;
         }

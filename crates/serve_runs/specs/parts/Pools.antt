@@ -18,52 +18,52 @@ use Rattle.server_hall.specs.StopNews.{StopsTold, unasked}
 use Rattle.desk_server.specs.Visit.{Visit, Works, EndsWorking}
 use Rattle.desk_server.specs.Agents.{VisitsAgents}
 use Rattle.desk_server.specs.declared.workers.WorkerEnd.{WorkerEnd}
-use Rattle.serve_runs.specs.Crew.{kind_for, is_lacking}
+use Rattle.serve_runs.specs.Pool.{kind_for, is_lacking}
 use Rattle.serve_runs.specs.Serving.{HasRisen}
-use Rattle.serve_runs.specs.declared.crews.Station.{Station}
-use Rattle.serve_runs.specs.declared.crews.Station.TheVariants.{Clients, Agents}
-use Rattle.serve_runs.specs.declared.crews.Worker.{Worker}
+use Rattle.serve_runs.specs.declared.pools.Station.{Station}
+use Rattle.serve_runs.specs.declared.pools.Station.TheVariants.{Clients, Agents}
+use Rattle.serve_runs.specs.declared.pools.Worker.{Worker}
 
 -- ---- stations
 
 -- what is done there beside serving
-abbrev pub duty_at : {J X : Type 0} → Station J X → Option X
-duty_at (Clients seat duty) = Some duty
-duty_at Agents = None
+abbrev pub handler_at : {J X : Type 0} → Station J X → Option X
+handler_at (Clients seat handler) = Some handler
+handler_at Agents = None
 
 abbrev pub seat_at : {J X : Type 0} → Station J X → Option SeatState
-seat_at (Clients seat duty) = Some seat
+seat_at (Clients seat handler) = Some seat
 seat_at Agents = None
 
 -- what a worker there hands on, by what that is of a seat and of what is done beside
 abbrev pub post_at : {J X S : Type 0} → (SeatState → X → S) → Station J X → Option S
-post_at state (Clients seat duty) = Some (state seat duty)
+post_at state (Clients seat handler) = Some (state seat handler)
 post_at state Agents = None
 
--- a station for each seat, with the duty of the same place
+-- a station for each seat, with the handler of the same place
 abbrev pub manned : {J X : Type 0} → List SeatState → List X → List (Station J X)
 manned seats [] = []
-manned [] (duty ∷ duties) = []
-manned (seat ∷ seats) (duty ∷ duties) = Clients seat duty ∷ manned seats duties
+manned [] (handler ∷ handlers) = []
+manned (seat ∷ seats) (handler ∷ handlers) = Clients seat handler ∷ manned seats handlers
 
 -- those, and then nine for agents
 abbrev pub stations_with : {J X : Type 0} → List SeatState → List X → List (Station J X)
-stations_with seats duties = manned seats duties ++ replicate 9 Agents
+stations_with seats handlers = manned seats handlers ++ replicate 9 Agents
 
--- ---- duties
+-- ---- handlers
 
 -- those that are there, in their order
-abbrev pub duties_in : {X : Type 0} → List (Option X) → List X
-duties_in [] = []
-duties_in (None ∷ more) = duties_in more
-duties_in (Some duty ∷ more) = duty ∷ duties_in more
+abbrev pub handlers_in : {X : Type 0} → List (Option X) → List X
+handlers_in [] = []
+handlers_in (None ∷ more) = handlers_in more
+handlers_in (Some handler ∷ more) = handler ∷ handlers_in more
 
-abbrev pub duty_of : {J E X : Type 0} → Worker J E X → Option X
-duty_of worker = duty_at worker.station
+abbrev pub handler_of : {J E X : Type 0} → Worker J E X → Option X
+handler_of worker = handler_at worker.station
 
 -- of the workers of clients, in their order
-abbrev pub duties_of : {J E X : Type 0} → List (Worker J E X) → List X
-duties_of crew = duties_in (map duty_of crew)
+abbrev pub handlers_of : {J E X : Type 0} → List (Worker J E X) → List X
+handlers_of pool = handlers_in (map handler_of pool)
 
 -- ---- workers
 
@@ -106,14 +106,14 @@ module _ {S L J E X : Type 0} (state : SeatState → X → S) (visits : S → Vi
     (given_back : E → Option (List L)) (door_faults : E → ℕ) where
   -- what a worker did at its station and its door
   abbrev pub WorksAt : WorkerEnd → Station J X → Station J X → E → E → StopsTold → StopsTold → Type 0
-  WorksAt end (Clients seat duty) (Clients seat_now duty_now) door door_now told told_now =
-      Works visits (EndsWorking told told_now) marks faults end (state seat duty) (state seat_now duty_now)
+  WorksAt end (Clients seat handler) (Clients seat_now handler_now) door door_now told told_now =
+      Works visits (EndsWorking told told_now) marks faults end (state seat handler) (state seat_now handler_now)
       (given_back door) (given_back door_now) (door_faults door) (door_faults door_now)
   WorksAt end Agents Agents door door_now told told_now =
       Works (VisitsAgents traffic marks faults) (EndsWorking told told_now) marks faults end tt tt
       (given_back door) (given_back door_now) (door_faults door) (door_faults door_now)
-  WorksAt end (Clients seat duty) Agents door door_now told told_now = ⊥
-  WorksAt end Agents (Clients seat duty) door door_now told told_now = ⊥
+  WorksAt end (Clients seat handler) Agents door door_now told told_now = ⊥
+  WorksAt end Agents (Clients seat handler) door door_now told told_now = ⊥
 
   -- a worker has ended: how, and what it did until then
   pub record HasWorked (kind : E → Option DoorKind) (worker worker_now : Worker J E X) : Type 0 where
