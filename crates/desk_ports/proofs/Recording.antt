@@ -3,6 +3,7 @@ use Rattle.std.proofs.Common.{◌≡◌, ◌||◌, ⊎_elim, ◌≤◌, inl, inr
 use Rattle.std.proofs.Math.Nat.{eq-or-lt_of_le}
 use Rattle.std.proofs.lemmas.List.{take-append-le}
 use Rattle.std.proofs.lemmas.List.Sums.{fold-append}
+use lib.Pointwise.{bytes_decides}
 use Rattle.desk_ports.specs.Disk.{DiskState, WhereTold, MayLeave, IsDisturbedAt, Disturbs}
 use Rattle.desk_ports.specs.Moments.{Elapses}
 use Rattle.desk_ports.specs.DiskCalls.{fresh_state, after_done, after_failed, after_call, after_calls, with_only_touched}
@@ -27,6 +28,15 @@ pub told-failed : (old new : RecordedDisk) (call : DiskCall) → new ≡ with_fa
     → WhereTold (Some (state_of old)) (λ before. Some (state_of new) ≡ Some (after_failed before call))
 told-failed old new call is before told =
     ap Some (ap state_of is ∙ state-with_call old call false ∙ ap (λ state. after_failed state call) (told_state old before told))
+
+-- a name that was only touched is disturbed
+only_touched-disturbs : (before : DiskState) (name : List ℕ) → IsDisturbedAt before name (with_only_touched before name)
+only_touched-disturbs before name = record {
+  durable = refl;
+  elsewhere = λ other apart. refl;
+  untouched = λ other apart. ap (λ is. is || before.touched other) apart;
+  touched = inl (ap (λ is. is || before.touched name) ((bytes_decides name name).1 refl));
+}
 
 undisturbed : (before : DiskState) (name : List ℕ) → IsDisturbedAt before name before
 undisturbed before name = record {

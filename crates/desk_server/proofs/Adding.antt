@@ -73,6 +73,10 @@ adds_up (judgement ∷ more) old new fits (time, recorded, between, one, rest) =
 
 -- ---- entries
 
+left_out : (judgement : Judgement) (put more : List Judgement) → IsPart put more → IsPart put (judgement ∷ more)
+left_out judgement [] more part = part
+left_out judgement (one ∷ put) more part = inr part
+
 -- what was put of these checks
 abbrev Puts : RecorderState → List Judgement → RecorderState → Type 0
 Puts old judged new = (put : List Judgement) × (entries : List Entry) × IsPart put judged

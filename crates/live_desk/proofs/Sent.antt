@@ -1,5 +1,5 @@
 -- A seat and a publisher may go to another thread. A `search` that goes down through all that they are made of runs out of
--- steps, so each part has a lemma of its own. Who hands them to a thread lists `seat_send` or `publisher_send` at the call.
+-- steps, so each part has a lemma of its own. Who hands a seat to a thread lists `seat_send` at the call.
 use denote.RattleType.{RattleType}
 use denote.Builtin.{u64}
 use mir.Syntax.{Dict}
