@@ -1,4 +1,4 @@
-// What a worker of clients does of each connection beside answering it.
+// What a worker of clients does with each connection: it serves it, and may do something besides.
 ghost use Rattle.std.specs.Prelude.{◌≡◌, ℕ, Option};
 ghost use Rattle.link_ports.specs.Traffic.{Traffic};
 ghost use Rattle.link_ports.specs.LinkMarks.{LinkMarks};
@@ -16,7 +16,7 @@ use std::alloc::Global;
 use std::sync::{Mutex, Wait};
 use std::time::Clock;
 
-/// What a worker of clients does of each connection beside answering it.
+/// What a worker of clients does with each connection: it serves it, and may do something besides.
 pub trait ClientHandler: Drop {
     /// What its worker hands on from one connection to the next.
     ghost State: { Type 0 };
@@ -52,7 +52,7 @@ pub trait ClientHandler: Drop {
     ghost seat_is: { (seat : SeatState) (handler : Self) → seat_of (state seat handler) ≡ seat };
 }
 
-/// Nothing beside.
+/// Nothing besides.
 #[derive(Debug, Drop)]
 pub struct Unrecorded;
 

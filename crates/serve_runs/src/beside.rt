@@ -154,7 +154,7 @@ where
         ensures knocks { Knocks N.faults N.closed net.entry.now net.exit.now }
         ensures task { (turns : ℕ) × C.goes task.entry.now turns task.exit.now }
     { keep_watch(rt, clients, questions, muster, alarm, net, task) };
-    let mut admin_state = || -> WorkerEnd
+    let mut administrators = || -> WorkerEnd
         requires { last_commit 0 publisher.now ≤ keeper.now.desk.commit }
         ensures { Administers D.faults D.state D.moment D.left_since L.traffic L.marks L.faults
             E.given_back E.faults E.kind result
@@ -166,7 +166,7 @@ where
             notes,
         )
     };
-    let ((), end) = join_mut(rt, &mut watch, &mut admin_state);
+    let ((), end) = join_mut(rt, &mut watch, &mut administrators);
     end
 }
 
